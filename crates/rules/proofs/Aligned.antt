@@ -89,6 +89,16 @@ pub buddies-comm : {k s b : ℕ} → Buddies k s b → Buddies k b s
 buddies-comm (upper a e) = lower a e
 buddies-comm (lower a e) = upper a e
 
+-- no block starts both where the upper and where the lower half of a larger one does, so a block has one buddy
+not-both : {k s b : ℕ} → Aligned (suc k) s → Aligned (suc k) b → s ≡ b + 2 ^ k → ⊥
+not-both {k} {s} {b} a c e = let l : b < s = omega (arith, pow-pos k) in omega (arith, next-start c a l, pow-pos k)
+
+pub one-buddy : {k s b c : ℕ} → Buddies k s b → Buddies k s c → b ≡ c
+one-buddy {k} (upper a e) (upper b f) = omega arith
+one-buddy {k} (upper a e) (lower b f) = absurd (not-both a b f)
+one-buddy {k} (lower a e) (upper b f) = absurd (not-both b a e)
+one-buddy {k} (lower a e) (lower b f) = omega arith
+
 -- the buddy that the code computes is the buddy
 pub buddy-is : {k s : ℕ} → k ≤ 32 → Aligned k s → Buddies k s (buddyOf k s)
 buddy-is {k} {s} h a = go (decLe s b)
@@ -106,13 +116,3 @@ buddy-is {k} {s} h a = go (decLe s b)
     go (no l) =
         let m : min s b ≡ b = omega arith in
         lower (record { multiple = rw m at (p .whole) }) (omega (arith, p .next))
-
--- no block starts both where the upper and where the lower half of a larger one does, so a block has one buddy
-not-both : {k s b : ℕ} → Aligned (suc k) s → Aligned (suc k) b → s ≡ b + 2 ^ k → ⊥
-not-both {k} {s} {b} a c e = let l : b < s = omega (arith, pow-pos k) in omega (arith, next-start c a l, pow-pos k)
-
-pub one-buddy : {k s b c : ℕ} → Buddies k s b → Buddies k s c → b ≡ c
-one-buddy {k} (upper a e) (upper b f) = omega arith
-one-buddy {k} (upper a e) (lower b f) = absurd (not-both a b f)
-one-buddy {k} (lower a e) (upper b f) = absurd (not-both b a e)
-one-buddy {k} (lower a e) (lower b f) = omega arith

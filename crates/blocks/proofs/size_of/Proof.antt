@@ -27,7 +27,7 @@ unfolding sizeOf
 none k h = rw (lt-leb k 32 h, sizeOf) refl
 
 returns : tie.Need-returns
-returns c = none (c .before .args .class) (c .if1 .taken)
+returns c = none (c .before .args .class) (omega arith)
 
 mul-result : tie.Need-mul-result
 mul-result c = search needs
