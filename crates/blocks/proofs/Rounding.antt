@@ -1,15 +1,15 @@
 -- Rounding up, down and of aligned requests. Assumes nothing.
 use mathlib.Core.Path.{_≡_, refl, sym, ap, _∙_}
 use mathlib.Core.Logic.{_⊎_, inl, inr, ⊎-elim}
-use Prim.Native.Nat.{ℕ, zero, suc, _+_, _-_, _*_, _^_, _≤_, _<_, max}
+use Prim.Native.Nat.{ℕ, zero, suc, _+_, _-_, _*_, _/_, _%_, _^_, _≤_, _<_, max}
 use native.Mathlib.Nat.{eq-zero-or-pos, max-comm, max-eq-right}
 use native.Mathlib.Omega.{arith}
 use native.Mathlib.Decide.{decLe}
 use lib.Pow.{pow-pos, pow-mono}
 use lib.Dec.{leb}
-use lib.Count.{leadingZeros, leading-top, leading-length}
+use lib.Count.{leadingZeros, trailingZeros, leading-top, leading-length}
 use borrow.Author.Tests.{leb-true, le-leb}
-use Rattle.blocks.specs.Blocks.{rounded, roundedAligned, larger, prevPowerOfTwo, sizeOf}
+use Rattle.blocks.specs.Blocks.{rounded, roundedAligned, larger, prevPowerOfTwo, sizeOf, sizeClass}
 use Rattle.blocks.specs.Laws.{Power, Least, Floor}
 use Rattle.blocks.specs.declared.Rounded.{Rounded}
 use Rattle.blocks.specs.declared.Rounded.the-variants.{Class, Above}
@@ -20,6 +20,20 @@ use Rattle.blocks.proofs.Searches.{largest-is, first-is, first-none}
 pub size-is : (k : ℕ) → k ≤ 32 → sizeOf k ≡ 2 ^ k
 unfolding sizeOf
 size-is k h = rw (le-leb k 32 h, sizeOf)
+
+-- the class of a size is its exponent
+trailing-power : (w k : ℕ) → k < w → trailingZeros w (2 ^ k) ≡ k
+unfolding trailingZeros
+trailing-power zero k h = absurd (omega arith)
+trailing-power (suc w) zero h = refl
+trailing-power (suc w) (suc k) h =
+    let x : 2 ^ suc k % 2 ≡ 0 = omega arith in
+    let y : 2 ^ suc k / 2 ≡ 2 ^ k = omega arith in
+    rw (x, y) (ap suc (trailing-power w k (omega arith)))
+
+pub size-class : (k : ℕ) → k < 64 → sizeClass (2 ^ k) ≡ k
+unfolding sizeClass
+size-class k h = trailing-power 64 k h
 
 -- ---- up: the class that holds a count
 

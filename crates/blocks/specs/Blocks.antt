@@ -1,6 +1,7 @@
 -- The arithmetic of blocks, from docs/RULES.md, "Blocks of frames". The promises of src/lib.rt cite these definitions.
 use mathlib.Core.Bool.{Bool, true, false}
 use Prim.Native.Nat.{ℕ, zero, suc, _+_, _-_, _/_, _%_, _^_, min, max}
+use lib.Count.{trailingZeros}
 use lib.Dec.{eqb, leb, ltb}
 use Rattle.blocks.specs.declared.Rounded.{Rounded}
 use Rattle.blocks.specs.declared.Rounded.the-variants.{Class, Above}
@@ -8,6 +9,10 @@ use Rattle.blocks.specs.declared.Rounded.the-variants.{Class, Above}
 -- "The 33 block sizes stand in a fixed table": 2 ^ class for the classes 0 to 32. A class above has no blocks, and its size is 0
 unfoldable pub sizeOf : ℕ → ℕ
 sizeOf class = elim (leb class 32) [ true ↦ 2 ^ class | false ↦ 0 ]
+
+-- the class of a size that is a power of two: how often 2 divides it
+unfoldable pub sizeClass : ℕ → ℕ
+sizeClass size = trailingZeros 64 size
 
 -- the first class that holds the count, among k and the classes after it, as many as there are tries
 unfoldable pub firstHolding : ℕ → ℕ → ℕ → Rounded

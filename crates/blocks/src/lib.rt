@@ -2,7 +2,7 @@
 // Numbers alone, no memory. Every function has an answer for every number; specs/Blocks.antt says which.
 ghost use mathlib.Core.Path.{_≡_};
 ghost use Prim.Native.Nat.{min};
-ghost use Rattle.blocks.specs.Blocks.{sizeOf, prevPowerOfTwo, rounded, roundedAligned, isPowerOfTwo, lowestBit, buddyOf, pieceSize};
+ghost use Rattle.blocks.specs.Blocks.{sizeOf, sizeClass, prevPowerOfTwo, rounded, roundedAligned, isPowerOfTwo, lowestBit, buddyOf, pieceSize};
 
 // What a count is rounded to: the class of the least block that holds it, or Above for a count above 2^32.
 pub enum Rounded {
@@ -65,6 +65,13 @@ pub fn prev_power_of_two(num: u64) -> u64
         return 0;
     }
     1u64 << (63 - u64::leading_zeros(num))
+}
+
+// The class of a size that is a power of two.
+pub fn class_of(size: u64) -> u64
+    ensures { λ r. ⌜ r ≡ sizeClass size ⌝ }
+{
+    u64::trailing_zeros(size) as u64
 }
 
 // The class that a count is rounded to: 0 and 1 to class 0.

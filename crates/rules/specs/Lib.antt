@@ -1,2 +1,3 @@
 pub mod Aligned
 pub mod Largest
+pub mod Rules
