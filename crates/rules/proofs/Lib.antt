@@ -1,2 +1,5 @@
 pub mod Aligned
 pub mod Largest
+pub mod Lists
+pub mod Joining
+pub mod Adding
