@@ -6,6 +6,10 @@ use lib.Dec.{eqb, leb, ltb}
 use lib.ListN.{take, drop, getD}
 use Rattle.blocks.specs.Blocks.{buddyOf, pieceSize, sizeClass}
 use Rattle.rules.specs.Aligned.{Aligned}
+use Rattle.rules.specs.declared.Found.{Found}
+use Rattle.rules.specs.declared.Found.the-variants.{At, Nowhere}
+use Rattle.rules.specs.declared.Place.{Place}
+use Rattle.rules.specs.declared.Place.the-variants.{Inside, Gap}
 
 -- a block: whether it is granted, its class, and its start
 pub data Block : Type 0 where
@@ -85,25 +89,29 @@ towards (suc i) c run t = elim (leb c i) [
 ]
 
 -- ---- Looking for a block: at a place of the list, or nowhere
-pub data Found : Type 0 where
-  at : ℕ → Found
-  nowhere : Found
-
 abbrev pub orElse : Found → Found → Found
-orElse (at i) f = at i
-orElse nowhere f = f
+orElse (At i) f = At i
+orElse Nowhere f = f
 
 -- the first block that passes a test, where the list's head has place i
 abbrev pub firstFrom : (Block → Bool) → ℕ → List Block → Found
-firstFrom p i [] = nowhere
-firstFrom p i (b ∷ bs) = elim (p b) [ true ↦ at i | false ↦ firstFrom p (i + 1) bs ]
+firstFrom p i [] = Nowhere
+firstFrom p i (b ∷ bs) = elim (p b) [ true ↦ At i | false ↦ firstFrom p (i + 1) bs ]
+
+-- the block that has the frame f, or the place where its record would stand; the list's head has place i
+abbrev pub placeFrom : ℕ → ℕ → List Block → Place
+placeFrom f i [] = Gap i
+placeFrom f i (b ∷ bs) = elim (ltb f (start b)) [ true ↦ Gap i | false ↦ elim (ltb f (end b)) [ true ↦ Inside i | false ↦ placeFrom f (i + 1) bs ] ]
+
+unfoldable pub placeOf : ℕ → List Block → Place
+placeOf f bs = placeFrom f 0 bs
 
 -- ---- Granting: "The smallest class holding a free block that suffices; in it the lowest start": of n classes from k up
 abbrev pub freeIn : ℕ → Block → Bool
 freeIn k (blk g j t) = not g && eqb j k
 
 abbrev pub smallest : ℕ → ℕ → ℕ → List Block → Found
-smallest zero k i bs = nowhere
+smallest zero k i bs = Nowhere
 smallest (suc n) k i bs = orElse (firstFrom (freeIn k) i bs) (smallest n (suc k) i bs)
 
 -- the block that serves a request of class c
