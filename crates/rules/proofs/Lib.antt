@@ -3,3 +3,7 @@ pub mod Largest
 pub mod Lists
 pub mod Joining
 pub mod Adding
+pub mod Looking
+pub mod Ranges
+pub mod Serving
+pub mod Halving
