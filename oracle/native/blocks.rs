@@ -4,6 +4,7 @@ use std::fmt::Debug;
 
 extern "C" {
     fn lavikety_blocks_size_of(class: u64) -> u64;
+    fn lavikety_blocks_class_of(size: u64) -> u64;
     fn lavikety_blocks_prev_power_of_two(num: u64) -> u64;
     fn lavikety_blocks_round(count: u64) -> u64;
     fn lavikety_blocks_round_aligned(size: u64, align: u64) -> u64;
@@ -155,6 +156,7 @@ fn main() {
         let mut r = Random(random.next());
         let some: Vec<u64> = classes.iter().copied().chain((0..RANDOM).map(|_| r.class())).collect();
         results.push(compare("lavikety_blocks_size_of", some.into_iter(), size_of, |a| lavikety_blocks_size_of(a)));
+        results.push(compare("lavikety_blocks_class_of", one(), |a| u64::from(a.trailing_zeros()), |a| lavikety_blocks_class_of(a)));
         results.push(compare("lavikety_blocks_prev_power_of_two", one(), prev_power_of_two, |a| lavikety_blocks_prev_power_of_two(a)));
         results.push(compare("lavikety_blocks_round", one(), round, |a| lavikety_blocks_round(a)));
 

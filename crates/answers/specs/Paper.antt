@@ -23,7 +23,7 @@ pub record Paper : Type 0 where
   pub number : ℕ
   pub value : ℕ
 
--- "Each returns its number and 0 ... An accepted call returns number 0 and" its value
+-- "Each returns its number and 0"; "An accepted call returns number 0 and" what it was asked for
 abbrev pub paper : Answer → Paper
 paper (Done v) = record { number = 0; value = v }
 paper (Refused r) = record { number = numberOf r; value = 0 }

@@ -1,13 +1,13 @@
 -- The lowest set bit and the test of a power of two: what masks compute. Assumes nothing.
 use mathlib.Core.Path.{_≡_, refl, sym, ap, ap₂, _∙_}
-use mathlib.Core.Bool.{Bool, true, false}
-use mathlib.Core.Logic.{_⊎_, inl, inr, ⊎-elim}
-use Prim.Native.Nat.{ℕ, zero, suc, _+_, _-_, _*_, _/_, _%_, _^_, _≤_, _<_, min}
+use mathlib.Core.Bool.{true, false, true≢false}
+use mathlib.Core.Logic.{⊎-elim}
+use Prim.Native.Nat.{ℕ, zero, suc, _+_, _-_, _*_, _/_, _%_, _^_, _≤_, _<_}
 use native.Mathlib.Nat.{lt-of-not-le, le-of-suc-le-suc, eq-zero-or-pos, pow-suc, div-add-mod', eq-of-mul-eq-mul-right, mod-self}
 use native.Mathlib.Omega.{arith}
 use lib.Pow.{pow-pos, pow-mono, pow-add, ones-lt}
-use lib.Dec.{eqb, ltb}
-use lib.Bits.{bitAnd, and-step, and-block, and-mask, and-self, and-zero-r}
+use lib.Dec.{eqb}
+use lib.Bits.{bitAnd, and-step, and-block, and-self, and-zero-r}
 use borrow.Author.Tests.{eqb-true, eq-eqb, ne-eqb, lt-ltb}
 use Rattle.blocks.specs.Blocks.{lowestBit, isPowerOfTwo, largestPower}
 use Rattle.blocks.specs.Laws.{Power, Lowest}
@@ -151,3 +151,20 @@ pub masked : (n : ℕ) → 0 < n → n < 2 ^ 64 → eqb (bitAnd n (n - 1)) 0 ≡
 masked n p h =
     let o : Odd n (2 ^ 64 - n) = odd-part 64 n (2 ^ 64 - n) p (omega arith) (omega arith) in
     masked-of n (o .exp) (o .odd) h (o .whole)
+
+-- and what the test says of a number that passes
+pub power-of-test : (n : ℕ) → n < 2 ^ 64 → isPowerOfTwo n ≡ true → Power n
+power-of-test n h e = ⊎-elim none some (eq-zero-or-pos n)
+  where
+    z : isPowerOfTwo 0 ≡ false
+    z = power-no 0 (λ w. omega (arith, w .is, pow-pos (w .class)))
+
+    none : n ≡ 0 → Power n
+    none y = absurd (true≢false (sym e ∙ rw y z))
+
+    pick : (k m : ℕ) → n ≡ (2 * m + 1) * 2 ^ k → Power n
+    pick k zero w = record { class = k; is = omega arith }
+    pick k (suc m) w = absurd (true≢false (sym e ∙ sym (masked-of n k (suc m) h w) ∙ ne-eqb (bitAnd n (n - 1)) 0 (λ y. omega (arith, pow-pos k, and-pred n k (suc m) w))))
+
+    some : 0 < n → Power n
+    some p = let o : Odd n (2 ^ 64 - n) = odd-part 64 n (2 ^ 64 - n) p (omega arith) (omega arith) in pick (o .exp) (o .odd) (o .whole)

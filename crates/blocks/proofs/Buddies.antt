@@ -1,19 +1,19 @@
 -- The buddy of a block: its neighbour in the pair. Assumes nothing.
 use mathlib.Core.Path.{_≡_, refl, sym, ap, _∙_}
 use mathlib.Core.Bool.{Bool, true, false}
-use mathlib.Core.Logic.{_⊎_, inl, inr, ⊎-elim}
-use Prim.Native.Nat.{ℕ, zero, suc, _+_, _-_, _*_, _/_, _%_, _^_, _≤_, _<_, min, max}
+use mathlib.Core.Logic.{⊎-elim}
+use Prim.Native.Nat.{ℕ, suc, _+_, _-_, _*_, _/_, _%_, _^_, _≤_, _<_}
 use native.Mathlib.Nat.{eq-zero-or-pos, pow-suc}
 use native.Mathlib.Decide.{decLe}
 use native.Mathlib.Omega.{arith}
-use lib.Pow.{pow-pos, pow-add}
-use lib.Dec.{eqb, leb}
+use lib.Pow.{pow-add}
+use lib.Dec.{eqb}
 use lib.Bits.{bitAnd, bitXor, and-high, xor-add-and, xor-zero-r}
-use borrow.Author.Tests.{eq-eqb, ne-eqb, lt-leb}
+use borrow.Author.Tests.{eq-eqb, ne-eqb}
 use Rattle.blocks.specs.Blocks.{sizeOf, buddyOf}
-use Rattle.blocks.specs.Laws.{Pair}
+use Rattle.blocks.specs.Laws.{Buddies, upper, lower}
 use Rattle.blocks.proofs.Powers.{quotient, multiple}
-use Rattle.blocks.proofs.Rounding.{size-is}
+use Rattle.blocks.proofs.Rounding.{size-is, size-none}
 
 -- bit k, in place
 bit-at : (s k : ℕ) → bitAnd s (2 ^ k) ≡ (s / 2 ^ k % 2) * 2 ^ k
@@ -42,11 +42,11 @@ buddy-odd k s h e = rw (size-is k h, ne-eqb (s / 2 ^ k % 2) 0 (λ z. omega arith
 
 -- a class above 32 has no size, and no buddy
 pub buddy-none : (k s : ℕ) → 32 < k → buddyOf k s ≡ s
-unfolding buddyOf sizeOf
+unfolding buddyOf
 buddy-none k s h = go (eqb (s / sizeOf k % 2) 0) refl
   where
     z : sizeOf k ≡ 0
-    z = rw (lt-leb k 32 h, sizeOf) refl
+    z = size-none k h
 
     go : (b : Bool) → eqb (s / sizeOf k % 2) 0 ≡ b → buddyOf k s ≡ s
     go true e = rw (e, buddyOf) (omega (arith, z))
@@ -54,7 +54,6 @@ buddy-none k s h = go (eqb (s / sizeOf k % 2) 0) refl
 
 -- the buddy is the start with bit k flipped, at every class
 pub flipped : (k s : ℕ) → bitXor s (sizeOf k) ≡ buddyOf k s
-unfolding sizeOf
 flipped k s = go (decLe k 32)
   where
     go : Dec (k ≤ 32) → bitXor s (sizeOf k) ≡ buddyOf k s
@@ -63,24 +62,24 @@ flipped k s = go (decLe k 32)
         ∙ ⊎-elim (λ e. xor-even k s e ∙ sym (buddy-even k s h e))
         (λ o. let e : s / 2 ^ k % 2 ≡ 1 = omega arith in omega (arith, xor-odd k s e, buddy-odd k s h e))
         (eq-zero-or-pos (s / 2 ^ k % 2))
-    go (no h) = let g : 32 < k = omega arith in ap (bitXor s) (rw (lt-leb k 32 g, sizeOf) refl) ∙ xor-zero-r s ∙ sym (buddy-none k s g)
+    go (no h) = let g : 32 < k = omega arith in ap (bitXor s) (size-none k g) ∙ xor-zero-r s ∙ sym (buddy-none k s g)
 
 -- a block and its buddy are the halves of one block of the next class
-pub pair : (k s : ℕ) → k ≤ 32 → s % 2 ^ k ≡ 0 → Pair k s (buddyOf k s)
+pub pair : (k s : ℕ) → k ≤ 32 → s % 2 ^ k ≡ 0 → Buddies k s (buddyOf k s)
 pair k s h m = ⊎-elim even odd (eq-zero-or-pos (s / 2 ^ k % 2))
   where
-    even : s / 2 ^ k % 2 ≡ 0 → Pair k s (buddyOf k s)
-    even e =
-        let w : s / 2 ^ k * 2 ^ k ≡ (2 * (s / 2 ^ k / 2)) * 2 ^ k = ap (λ (x : ℕ). x * 2 ^ k) {x = s / 2 ^ k} {y = 2 * (s / 2 ^ k / 2)} (omega arith) in
-        let b : buddyOf k s ≡ s + 2 ^ k = buddy-even k s h e in
-        record { whole = multiple (min s (buddyOf k s)) (s / 2 ^ k / 2) (2 ^ suc k) (rw pow-suc (omega (arith, quotient s (2 ^ k) m))); next = omega arith }
+    -- twice the half of the quotient, in place
+    low : (b q : ℕ) → s / 2 ^ k ≡ 2 * (s / 2 ^ k / 2) + q → b + q * 2 ^ k ≡ s → b % 2 ^ suc k ≡ 0
+    low b q e d =
+        let w : s / 2 ^ k * 2 ^ k ≡ (2 * (s / 2 ^ k / 2) + q) * 2 ^ k = ap (λ (x : ℕ). x * 2 ^ k) e in
+        multiple b (s / 2 ^ k / 2) (2 ^ suc k) (rw pow-suc (omega (arith, quotient s (2 ^ k) m)))
 
-    odd : 0 < s / 2 ^ k % 2 → Pair k s (buddyOf k s)
+    even : s / 2 ^ k % 2 ≡ 0 → Buddies k s (buddyOf k s)
+    even e = upper (low s 0 (omega arith) (omega arith)) (buddy-even k s h e)
+
+    odd : 0 < s / 2 ^ k % 2 → Buddies k s (buddyOf k s)
     odd o =
         let e : s / 2 ^ k % 2 ≡ 1 = omega arith in
         let w : s / 2 ^ k * 2 ^ k ≡ (2 * (s / 2 ^ k / 2) + 1) * 2 ^ k = ap (λ (x : ℕ). x * 2 ^ k) {x = s / 2 ^ k} {y = 2 * (s / 2 ^ k / 2) + 1} (omega arith) in
-        let b : buddyOf k s ≡ s - 2 ^ k = buddy-odd k s h e in
-        record {
-          whole = multiple (min s (buddyOf k s)) (s / 2 ^ k / 2) (2 ^ suc k) (rw pow-suc (omega (arith, quotient s (2 ^ k) m)));
-          next = omega (arith, quotient s (2 ^ k) m);
-        }
+        let b : buddyOf k s + 2 ^ k ≡ s = omega (arith, buddy-odd k s h e, quotient s (2 ^ k) m) in
+        lower (low (buddyOf k s) 1 (omega arith) (omega arith)) (sym b)

@@ -1,7 +1,7 @@
 -- The next piece of a cut: a block that may stand there, as large as the three limits let it be. Assumes nothing.
-use mathlib.Core.Path.{_≡_, refl, sym, ap, _∙_}
-use mathlib.Core.Logic.{_⊎_, inl, inr, ⊎-elim}
-use Prim.Native.Nat.{ℕ, zero, suc, _+_, _-_, _*_, _%_, _^_, _≤_, _<_, min}
+use mathlib.Core.Path.{_≡_, refl}
+use mathlib.Core.Logic.{⊎-elim}
+use Prim.Native.Nat.{ℕ, _%_, _^_, _≤_, _<_, min}
 use native.Mathlib.Nat.{eq-zero-or-pos, min-eq-left, min-eq-right}
 use native.Mathlib.Omega.{arith}
 use native.Mathlib.Decide.{decLe}

@@ -1,9 +1,9 @@
 -- Powers of two and their multiples. Assumes nothing.
-use mathlib.Core.Path.{_≡_, refl, sym, ap, _∙_}
-use Prim.Native.Nat.{ℕ, zero, suc, _+_, _-_, _*_, _/_, _%_, _^_, _≤_, _<_}
+use mathlib.Core.Path.{_≡_, ap, _∙_}
+use Prim.Native.Nat.{ℕ, suc, _+_, _-_, _*_, _/_, _%_, _^_, _≤_, _<_}
 use native.Mathlib.Nat.{lt-of-not-le, le-of-suc-le-suc, div-add-mod', mul-mod-left}
 use native.Mathlib.Omega.{arith}
-use lib.Pow.{pow-pos, pow-mono, pow-lt, pow-add}
+use lib.Pow.{pow-mono, pow-lt, pow-add}
 
 -- the order of two powers is that of their exponents
 pub exp-le : (i j : ℕ) → 2 ^ i < 2 * 2 ^ j → i ≤ j

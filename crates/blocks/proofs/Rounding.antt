@@ -2,15 +2,15 @@
 use mathlib.Core.Path.{_≡_, refl, sym, ap, _∙_}
 use mathlib.Core.Logic.{_⊎_, inl, inr, ⊎-elim}
 use Prim.Native.Nat.{ℕ, zero, suc, _+_, _-_, _*_, _/_, _%_, _^_, _≤_, _<_, max}
-use native.Mathlib.Nat.{eq-zero-or-pos, max-comm, max-eq-right}
+use native.Mathlib.Nat.{max-comm, max-eq-right}
 use native.Mathlib.Omega.{arith}
 use native.Mathlib.Decide.{decLe}
 use lib.Pow.{pow-pos, pow-mono}
 use lib.Dec.{leb}
 use lib.Count.{leadingZeros, trailingZeros, leading-top, leading-length}
-use borrow.Author.Tests.{leb-true, le-leb}
+use borrow.Author.Tests.{leb-true, le-leb, lt-leb}
 use Rattle.blocks.specs.Blocks.{rounded, roundedAligned, larger, prevPowerOfTwo, sizeOf, sizeClass}
-use Rattle.blocks.specs.Laws.{Power, Least, Floor}
+use Rattle.blocks.specs.Laws.{Least, Floor}
 use Rattle.blocks.specs.declared.Rounded.{Rounded}
 use Rattle.blocks.specs.declared.Rounded.the-variants.{Class, Above}
 use Rattle.blocks.proofs.Powers.{exp-le}
@@ -20,6 +20,11 @@ use Rattle.blocks.proofs.Searches.{largest-is, first-is, first-none}
 pub size-is : (k : ℕ) → k ≤ 32 → sizeOf k ≡ 2 ^ k
 unfolding sizeOf
 size-is k h = rw (le-leb k 32 h, sizeOf)
+
+-- a class above 32 has no size
+pub size-none : (k : ℕ) → 32 < k → sizeOf k ≡ 0
+unfolding sizeOf
+size-none k h = rw (lt-leb k 32 h, sizeOf) refl
 
 -- the class of a size is its exponent
 trailing-power : (w k : ℕ) → k < w → trailingZeros w (2 ^ k) ≡ k
@@ -48,15 +53,20 @@ pub above-is : (count : ℕ) → 2 ^ 32 < count → rounded count ≡ Above
 unfolding rounded
 above-is count h = first-none 33 0 count (λ j l. let m : 2 ^ j ≤ 2 ^ 32 = pow-mono {i = j} {j = 32} (omega arith) in omega arith)
 
+-- the count of leading zeros gives the least class that holds a count
+pub counted : (n : ℕ) → n ≤ 2 ^ 32 → Least n (64 - leadingZeros 64 (n - 1))
+counted n h =
+    let t = leading-length 64 (n - 1) (omega arith) in
+    let e : 64 - leadingZeros 64 (n - 1) ≡ t .0 = omega arith in
+    let l : t .0 ≤ 32 = exp-le (t .0) 32 (omega arith) in
+    rw e (least-of n (t .0) l (omega arith) (t .3))
+
 -- every count has a least class or is above all of them
 pub rounding : (count : ℕ) → ((k : ℕ) × Least count k) ⊎ (2 ^ 32 < count)
 rounding count = go (decLe count (2 ^ 32))
   where
     go : Dec (count ≤ 2 ^ 32) → ((k : ℕ) × Least count k) ⊎ (2 ^ 32 < count)
-    go (yes h) =
-        let t = leading-length 64 (count - 1) (omega arith) in
-        let l : t .0 ≤ 32 = exp-le (t .0) 32 (omega arith) in
-        inl (t .0, least-of count (t .0) l (omega arith) (t .3))
+    go (yes h) = inl (64 - leadingZeros 64 (count - 1), counted count h)
     go (no h) = inr (omega arith)
 
 -- what an answer of the rounding says of its count
@@ -96,6 +106,15 @@ larger-comm (Class j) (Class k) = ap Class (max-comm j k)
 larger-comm (Class j) Above = refl
 larger-comm Above (Class k) = refl
 larger-comm Above Above = refl
+
+-- an aligned request is rounded as the larger of its size and its alignment
+pub aligned-is : (size align : ℕ) → roundedAligned size align ≡ rounded (max size align)
+unfolding roundedAligned
+aligned-is size align = go (decLe size align)
+  where
+    go : Dec (size ≤ align) → roundedAligned size align ≡ rounded (max size align)
+    go (yes h) = larger-is size align h ∙ ap rounded (sym (max-eq-right h))
+    go (no h) = let g : align ≤ size = omega arith in larger-comm (rounded size) (rounded align) ∙ larger-is align size g ∙ ap rounded {x = size} {y = max size align} (omega arith)
 
 -- ---- down: the largest power at most a number
 

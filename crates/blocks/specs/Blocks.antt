@@ -23,12 +23,13 @@ firstHolding (suc tries) k count = elim (leb count (2 ^ k)) [ true ↦ Class k |
 unfoldable pub rounded : ℕ → Rounded
 rounded count = firstHolding 33 0 count
 
+-- the larger of two classes, where Above is larger than each
 abbrev pub larger : Rounded → Rounded → Rounded
 larger (Class j) (Class k) = Class (max j k)
 larger (Class j) Above = Above
 larger Above r = Above
 
--- "Aligned requests take the larger of the rounded count and the alignment"
+-- "Aligned requests take the larger of the rounded count and the alignment"; an alignment that is no power of two is rounded as well
 unfoldable pub roundedAligned : ℕ → ℕ → Rounded
 roundedAligned size align = larger (rounded size) (rounded align)
 
@@ -41,11 +42,12 @@ largestPower passes (suc k) = elim (passes (2 ^ k)) [ true ↦ 2 ^ k | false ↦
 unfoldable pub prevPowerOfTwo : ℕ → ℕ
 prevPowerOfTwo num = largestPower (λ p. leb p num) 64
 
--- "alignment is not a power of two" (refusal 7) is where none of 1, 2, 4, .., 2 ^ 63 equals the number
+-- one of 1, 2, 4, .., 2 ^ 63; "alignment is not a power of two", refusal 7, is where this is false
 unfoldable pub isPowerOfTwo : ℕ → Bool
 isPowerOfTwo num = ltb 0 (largestPower (λ p. eqb p num) 64)
 
--- "The lowest set bit": the largest power of two that divides the start; 0 has no set bit, and gives 0
+-- the largest power of two that divides the start, and 0 for 0. `mask` of proofs/Bits proves that this is what the rules say: "The lowest
+-- set bit is the number masked with its wrapping negation."
 unfoldable pub lowestBit : ℕ → ℕ
 lowestBit start = elim (eqb start 0) [ true ↦ 0 | false ↦ largestPower (λ p. eqb (start % p) 0) 64 ]
 

@@ -51,10 +51,11 @@ const SIZES: [u64; 33] = [
 pub fn size_of(class: u64) -> u64
     ensures { λ r. ⌜ r ≡ sizeOf class ⌝ }
 {
-    if 32 < class {
-        return 0;
+    if class <= 32 {
+        SIZES[class as usize]
+    } else {
+        0
     }
-    SIZES[class as usize]
 }
 
 // The largest power of two that is at most num; 0 at 0, where the Rust stops.
@@ -97,6 +98,7 @@ pub fn round_aligned(size: u64, align: u64) -> Rounded
     round(size)
 }
 
+// Whether num is one of 1, 2, 4, .., 2^63.
 pub fn is_power_of_two(num: u64) -> bool
     ensures { λ r. ⌜ r ≡ isPowerOfTwo num ⌝ }
 {
@@ -120,7 +122,8 @@ pub fn buddy(start: u64, class: u64) -> u64
     start ^ size_of(class)
 }
 
-// The size of the next piece of a cut that stands at start, has left frames to go, and may use blocks up to class top.
+// The size of the next piece of a cut that stands at start, has left frames to go, and may use blocks up to class top. It is 0 where
+// nothing is left or top is no class.
 pub fn piece(start: u64, left: u64, top: u64) -> u64
     ensures { λ r. ⌜ r ≡ pieceSize top start left ⌝ }
 {

@@ -1,6 +1,6 @@
 // The functions of `blocks` for C and Rust to call, so that a run can hold them to the Rust. The firmware's header has none of them.
 ghost use mathlib.Core.Path.{_≡_};
-ghost use Rattle.blocks.specs.Blocks.{sizeOf, prevPowerOfTwo, rounded, roundedAligned, isPowerOfTwo, lowestBit, buddyOf, pieceSize};
+ghost use Rattle.blocks.specs.Blocks.{sizeOf, sizeClass, prevPowerOfTwo, rounded, roundedAligned, isPowerOfTwo, lowestBit, buddyOf, pieceSize};
 ghost use Rattle.blocks_c.specs.Numbers.{classNumber, flag};
 use blocks::Rounded;
 
@@ -9,6 +9,13 @@ pub extern "C" fn lavikety_blocks_size_of(class: u64) -> u64
     ensures { λ r. ⌜ r ≡ sizeOf class ⌝ }
 {
     blocks::size_of(class)
+}
+
+#[no_mangle]
+pub extern "C" fn lavikety_blocks_class_of(size: u64) -> u64
+    ensures { λ r. ⌜ r ≡ sizeClass size ⌝ }
+{
+    blocks::class_of(size)
 }
 
 #[no_mangle]

@@ -1,7 +1,7 @@
 -- What each call on a frame table answers and leaves, from docs/RULES.md, "The frame table" and "Refusal numbers".
 use mathlib.Core.Bool.{Bool, true, false, not, _||_}
-use mathlib.Core.List.{List, [], _∷_, _++_}
-use Prim.Native.Nat.{ℕ, _+_, _-_, _%_, _^_}
+use mathlib.Core.List.{List, [], _∷_}
+use Prim.Native.Nat.{ℕ, _-_, _%_, _^_}
 use lib.Dec.{eqb, leb, ltb}
 use lib.ListN.{length}
 use Rattle.answers.specs.declared.Refusal.{Refusal}
@@ -13,7 +13,7 @@ use Rattle.blocks.specs.Blocks.{rounded, roundedAligned, isPowerOfTwo}
 use Rattle.rules.specs.declared.Found.{Found}
 use Rattle.rules.specs.declared.Found.the-variants.{At, Nowhere}
 use Rattle.rules.specs.Rules.{Block, granted, start, some, added, overlaps, serving, containing, blockAt, halved, isGranted, released, framesOf, largestFree}
-use Rattle.table.specs.Layout.{State, stateOf, wordsOf}
+use Rattle.table.specs.Layout.{stateOf, wordsOf}
 use Rattle.table.specs.Sound.{soundb}
 
 -- the calls on an existing table; `insert` is `add_frame`

@@ -1,16 +1,14 @@
 -- Two aligned blocks are nested or disjoint; halves; buddies. Assumes nothing.
-use mathlib.Core.Path.{_≡_, refl, sym, ap, _∙_}
-use mathlib.Core.Logic.{_⊎_, inl, inr, ⊎-elim}
-use Prim.Native.Nat.{ℕ, zero, suc, _+_, _-_, _*_, _/_, _%_, _^_, _≤_, _<_, min, max}
-use native.Mathlib.Nat.{mul-le-mul-right, eq-zero-or-pos, pow-suc, lt-of-not-le}
+use mathlib.Core.Path.{_≡_}
+use mathlib.Core.Logic.{_⊎_, inl, inr}
+use Prim.Native.Nat.{ℕ, suc, _+_, _-_, _*_, _/_, _^_, _≤_, _<_, max}
+use native.Mathlib.Nat.{mul-le-mul-right, pow-suc, lt-of-not-le}
 use native.Mathlib.Omega.{arith}
 use native.Mathlib.Decide.{decLe}
 use lib.Pow.{pow-pos, pow-lt}
-use Rattle.blocks.specs.Blocks.{buddyOf}
-use Rattle.blocks.specs.Laws.{Pair}
+use Rattle.blocks.specs.Laws.{Buddies, upper, lower}
 use Rattle.blocks.proofs.Powers.{quotient, multiple, multiple-le}
-use Rattle.blocks.proofs.Buddies.{pair}
-use Rattle.rules.specs.Aligned.{Aligned, Covers, Holds, Meets, Buddies, upper, lower}
+use Rattle.rules.specs.Aligned.{Aligned, Covers, Holds, Meets}
 
 -- ---- multiples
 
@@ -64,6 +62,16 @@ covers-start k s = omega (arith, pow-pos k)
 pub holds-meets : {j t k s : ℕ} → Holds j t k s → Meets j t k s
 holds-meets {j} {t} {k} {s} h = omega (arith, pow-pos k)
 
+-- `Meets` and `Holds` say of frames what they say of starts and ends
+pub meets-frame : {j t k s : ℕ} → Meets j t k s → (x : ℕ) × (Covers j t x × Covers k s x)
+meets-frame {j} {t} {k} {s} m = (max s t, (omega (arith, pow-pos j), omega (arith, pow-pos k)))
+
+pub holds-of : {j t k s : ℕ} → ((x : ℕ) → Covers k s x → Covers j t x) → Holds j t k s
+holds-of {j} {t} {k} {s} f =
+    let a : Covers j t s = f s (covers-start k s) in
+    let b : Covers j t (s + 2 ^ k - 1) = f (s + 2 ^ k - 1) (omega (arith, pow-pos k)) in
+    omega (arith, pow-pos k)
+
 -- ---- halves
 
 pub lower-half : {k s : ℕ} → Aligned (suc k) s → Aligned k s
@@ -71,6 +79,13 @@ lower-half {k} h = let l : k ≤ suc k = omega arith in aligned-le l h
 
 pub upper-half : {k s : ℕ} → Aligned (suc k) s → Aligned k (s + 2 ^ k)
 upper-half h = aligned-end (lower-half h)
+
+-- a block holds its halves
+pub holds-lower : (k s : ℕ) → Holds (suc k) s k s
+holds-lower k s = omega (arith, pow-suc 2 k)
+
+pub holds-upper : (k s : ℕ) → Holds (suc k) s k (s + 2 ^ k)
+holds-upper k s = omega (arith, pow-suc 2 k)
 
 -- each frame of a block is in its lower or its upper half, and in one of them only
 pub halves-cover : {k s x : ℕ} → Covers (suc k) s x → Covers k s x ⊎ Covers k (s + 2 ^ k) x
@@ -95,24 +110,6 @@ not-both {k} {s} {b} a c e = let l : b < s = omega (arith, pow-pos k) in omega (
 
 pub one-buddy : {k s b c : ℕ} → Buddies k s b → Buddies k s c → b ≡ c
 one-buddy {k} (upper a e) (upper b f) = omega arith
-one-buddy {k} (upper a e) (lower b f) = absurd (not-both a b f)
-one-buddy {k} (lower a e) (upper b f) = absurd (not-both b a e)
+one-buddy {k} (upper a e) (lower b f) = absurd (not-both (record { multiple = a }) (record { multiple = b }) f)
+one-buddy {k} (lower a e) (upper b f) = absurd (not-both (record { multiple = b }) (record { multiple = a }) e)
 one-buddy {k} (lower a e) (lower b f) = omega arith
-
--- the buddy that the code computes is the buddy
-pub buddy-is : {k s : ℕ} → k ≤ 32 → Aligned k s → Buddies k s (buddyOf k s)
-buddy-is {k} {s} h a = go (decLe s b)
-  where
-    b : ℕ
-    b = buddyOf k s
-
-    p : Pair k s b
-    p = pair k s h (a .multiple)
-
-    go : Dec (s ≤ b) → Buddies k s b
-    go (yes l) =
-        let m : min s b ≡ s = omega arith in
-        upper (record { multiple = rw m at (p .whole) }) (omega (arith, p .next))
-    go (no l) =
-        let m : min s b ≡ b = omega arith in
-        lower (record { multiple = rw m at (p .whole) }) (omega (arith, p .next))

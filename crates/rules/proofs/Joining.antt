@@ -1,15 +1,15 @@
 -- Releasing: the buddy, where it is free, is the neighbour in the list, so that joining widens one gap. Assumes nothing.
-use mathlib.Core.Path.{_≡_, refl, sym, ap, _∙_}
-use mathlib.Core.Bool.{Bool, true, false, not, _&&_}
+use mathlib.Core.Path.{_≡_, refl, ap, _∙_}
+use mathlib.Core.Bool.{Bool, true, false, _&&_}
 use mathlib.Core.List.{List, [], _∷_, _++_, append-assoc}
-use Prim.Native.Nat.{ℕ, zero, suc, _+_, _-_, _^_, _≤_, _<_, min}
+use Prim.Native.Nat.{ℕ, suc, _+_, _-_, _^_, _≤_, min}
 use native.Mathlib.Omega.{arith}
 use lib.Pow.{pow-pos}
 use lib.Dec.{eqb}
 use borrow.Author.Tests.{eq-eqb}
 use Rattle.blocks.specs.Blocks.{buddyOf}
-use Rattle.rules.specs.Rules.{Block, blk, start, end, Sound, none, next, isFree, isGranted, some, without, insert, joined, released}
-use Rattle.rules.proofs.Lists.{Below, Above, none-below, none-above, Misses, none-misses, above-le, sound-above, insert-at, free-picks, granted-picks, misses-below, misses-above, some-misses, misses-append, some-at, without-at, Stands, stands}
+use Rattle.rules.specs.Rules.{Block, blk, start, end, Sound, next, isFree, isGranted, some, joined, released}
+use Rattle.rules.proofs.Lists.{Below, Above, none-below, none-above, Misses, none-misses, sound-above, insert-at, free-picks, granted-picks, misses-below, misses-above, some-misses, misses-append, some-at, without-at, stands}
 
 self : (m : Bool) → m ≡ true → (k s : ℕ) → (m && eqb k k && eqb s s) ≡ true
 self m e k s = rw (e, eq-eqb k k refl, eq-eqb s s refl) refl

@@ -1,11 +1,12 @@
 -- A tidy set of blocks in which nothing is left to join has exactly the largest aligned blocks of its frames. Assumes nothing.
-use mathlib.Core.Path.{_≡_, refl, sym, ap, _∙_, subst₂}
+use mathlib.Core.Path.{_≡_, refl, sym, ap, subst₂}
 use mathlib.Core.Logic.{_⊎_, _↔_, inl, inr}
-use Prim.Native.Nat.{ℕ, zero, suc, _+_, _*_, _^_, _≤_, _<_}
+use Prim.Native.Nat.{ℕ, zero, suc, _+_, _^_, _≤_, _<_}
 use native.Mathlib.Nat.{eq-or-lt-of-le}
 use native.Mathlib.Omega.{arith}
 use lib.Pow.{pow-pos}
-use Rattle.rules.specs.Aligned.{Aligned, Covers, Holds, Meets, Buddies, upper}
+use Rattle.rules.specs.Aligned.{Aligned, Covers, Holds}
+use Rattle.blocks.specs.Laws.{upper}
 use Rattle.rules.specs.Largest.{Covered, Whole, Largest, Tidy, Joined, Held}
 use Rattle.rules.proofs.Aligned.{nested, holds-class, meets-at, held-covers, covers-start, holds-meets, lower-half, upper-half}
 
@@ -37,7 +38,7 @@ module _ (top : ℕ) (B : ℕ → ℕ → Type 0) (tidy : Tidy top B) where
           pick : (k ≡ f .class) ⊎ (k < f .class) → (k ≡ g .class) ⊎ (k < g .class) → Held B (suc k) s
           pick (inr l) r = holder (f .member) (held-covers (f .holds) (covers-start k s)) (covers-start (suc k) s) a l
           pick (inl e) (inr l) = holder (g .member) (held-covers (g .holds) (covers-start k (s + 2 ^ k))) (omega (arith, pow-pos k)) a l
-          pick (inl e) (inl r) = absurd (n .never h (upper a refl) (held-same f e) (held-same g r))
+          pick (inl e) (inl r) = absurd (n .never h (upper (a .multiple) refl) (held-same f e) (held-same g r))
 
   -- the blocks of the set are the largest aligned blocks of the frames that it covers
   pub largest : Joined top B → (k s : ℕ) → B k s ↔ Largest top (Covered B) k s

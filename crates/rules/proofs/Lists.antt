@@ -1,14 +1,14 @@
 -- Lists of blocks in ascending start: where a block stands, is put, is found and is taken out. Assumes nothing.
-use mathlib.Core.Path.{_≡_, refl, sym, ap, _∙_}
-use mathlib.Core.Bool.{Bool, true, false, not, _&&_, _||_, true≢false, or-false}
-use mathlib.Core.List.{List, [], _∷_, _++_, append-assoc}
-use Prim.Native.Nat.{ℕ, zero, suc, _+_, _-_, _^_, _≤_, _<_}
+use mathlib.Core.Path.{_≡_, refl, sym, ap}
+use mathlib.Core.Bool.{Bool, true, false, not, _&&_, true≢false, or-false}
+use mathlib.Core.List.{List, [], _∷_, _++_}
+use Prim.Native.Nat.{ℕ, _+_, _^_, _≤_, _<_}
 use native.Mathlib.Omega.{arith}
 use lib.Pow.{pow-pos}
-use lib.Dec.{eqb, ltb, leb}
-use borrow.Author.Tests.{eqb-true, eq-eqb, lt-ltb, le-ltb, not-true}
+use lib.Dec.{eqb}
+use borrow.Author.Tests.{eqb-true, lt-ltb, le-ltb}
 use Rattle.rules.specs.Aligned.{Aligned}
-use Rattle.rules.specs.Rules.{Block, blk, granted, class, start, end, Sound, none, next, isFree, isGranted, some, without, insert, insertAll}
+use Rattle.rules.specs.Rules.{Block, blk, class, start, end, Sound, none, next, isFree, isGranted, some, without, insert}
 
 -- every block of the list ends at or before f; starts at or after f
 pub data Below (f : ℕ) : List Block → Type 0 where

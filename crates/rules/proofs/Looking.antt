@@ -1,8 +1,8 @@
 -- Looking for a block: what the place of a frame says of the list, and which block a request finds there. Assumes nothing.
 use mathlib.Core.Path.{_≡_, refl, sym, ap, _∙_}
-use mathlib.Core.Bool.{Bool, true, false, not, _&&_, _||_, and-false}
+use mathlib.Core.Bool.{Bool, true, false, not, _&&_, and-false}
 use mathlib.Core.List.{List, [], _∷_, _++_}
-use Prim.Native.Nat.{ℕ, zero, suc, _+_, _-_, _^_, _≤_, _<_}
+use Prim.Native.Nat.{ℕ, suc, _+_, _^_, _≤_, _<_}
 use native.Mathlib.Omega.{arith}
 use native.Mathlib.Nat.{add-zero}
 use lib.Pow.{pow-pos}
@@ -10,11 +10,9 @@ use lib.Dec.{leb, ltb}
 use lib.ListN.{length, take, drop, take-append-drop}
 use lib.Seq.{split-at, length-take-le}
 use native.Mathlib.Numerals.{add-one}
-use borrow.Author.Tests.{ltb-true, ltb-false, lt-ltb, le-ltb, lt-leb, le-leb}
-use Rattle.rules.specs.Rules.{Block, blk, granted, start, end, Sound, none, next, isGranted, some, contains, containing, firstFrom, placeFrom, placeOf, blockAt}
-use Rattle.rules.specs.declared.Found.{Found}
+use borrow.Author.Tests.{ltb-true, ltb-false, lt-ltb, le-ltb, lt-leb}
+use Rattle.rules.specs.Rules.{Block, blk, start, end, Sound, next, isGranted, some, contains, containing, firstFrom, placeFrom, placeOf, blockAt}
 use Rattle.rules.specs.declared.Found.the-variants.{At, Nowhere}
-use Rattle.rules.specs.declared.Place.{Place}
 use Rattle.rules.specs.declared.Place.the-variants.{Inside, Gap}
 use Rattle.rules.proofs.Lists.{Below, none-below, and-below, Above, none-above, and-above, above-le, below-le, sound-above, Stands, stands, Misses, none-misses, and-misses, misses-append, misses-below, misses-above, granted-picks, some-misses, some-at}
 

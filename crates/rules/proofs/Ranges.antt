@@ -1,14 +1,13 @@
 -- A range to be added, held to the place of its first frame: whether it overlaps, and where its pieces stand. Assumes nothing.
-use mathlib.Core.Path.{_≡_, refl, sym, ap, _∙_}
+use mathlib.Core.Path.{_≡_, sym, ap, _∙_}
 use mathlib.Core.Bool.{true, false}
-use mathlib.Core.List.{List, [], _∷_, _++_}
+use mathlib.Core.List.{List, _∷_, _++_}
 use Prim.Native.Nat.{ℕ, suc, _+_, _-_, _^_, _≤_, _<_}
 use native.Mathlib.Omega.{arith}
-use native.Mathlib.Numerals.{add-one}
 use lib.Pow.{pow-pos}
 use lib.ListN.{length, take, drop, take-append-drop, drop-of-length-le}
 use lib.Seq.{split-at, drop-cons}
-use Rattle.rules.specs.Rules.{Block, blk, class, start, end, Sound, some, overlaps, added, blockAt}
+use Rattle.rules.specs.Rules.{Block, blk, start, end, Sound, some, overlaps, added, blockAt}
 use Rattle.rules.proofs.Lists.{Above, none-above, and-above, above-le, sound-above, Stands, stands}
 use Rattle.rules.proofs.Adding.{piecesOf, added-at, apart, overlap-at}
 use Rattle.rules.proofs.Looking.{InsideAt, GapAt}

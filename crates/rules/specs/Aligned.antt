@@ -1,6 +1,6 @@
 -- Aligned blocks, from docs/RULES.md: "A block of class k starts at a multiple of 2^k and covers 2^k frames."
 use mathlib.Core.Path.{_≡_}
-use Prim.Native.Nat.{ℕ, suc, _+_, _%_, _^_, _≤_, _<_}
+use Prim.Native.Nat.{ℕ, _+_, _%_, _^_, _≤_, _<_}
 
 -- a block of class k may start at s
 pub record Aligned (k s : ℕ) : Type 0 where
@@ -20,8 +20,3 @@ pub record Holds (j t k s : ℕ) : Type 0 where
 pub record Meets (j t k s : ℕ) : Type 0 where
   pub left : s < t + 2 ^ j
   pub right : t < s + 2 ^ k
-
--- the blocks of class k at s and at b are buddies: the two halves of one block of the next class
-pub data Buddies (k s b : ℕ) : Type 0 where
-  upper : Aligned (suc k) s → b ≡ s + 2 ^ k → Buddies k s b
-  lower : Aligned (suc k) b → s ≡ b + 2 ^ k → Buddies k s b

@@ -1,5 +1,5 @@
 -- `blocks::class_of` meets its contract. Assumes nothing.
-use mathlib.Core.Path.{_≡_, refl}
+use mathlib.Core.Path.{refl}
 use native.Mathlib.Omega.{arith}
 use lib.Count.{trailing-le}
 use Rattle.blocks.specs.Blocks.{sizeClass}

@@ -1,27 +1,18 @@
 -- `blocks::round` meets its contract. Assumes nothing.
-use mathlib.Core.Path.{_≡_, refl, sym, _∙_, ap}
-use Prim.Native.Nat.{ℕ, suc, _+_, _-_, _*_, _%_, _^_, _≤_, _<_}
+use mathlib.Core.Path.{_≡_, refl, sym}
+use Prim.Native.Nat.{_-_}
 use native.Mathlib.Omega.{arith}
 use borrow.Author.Needs.{needs}
-use lib.Count.{leadingZeros, leading-le, leading-length}
+use lib.Count.{leadingZeros, leading-le}
 use Rattle.blocks.specs.Blocks.{rounded, firstHolding}
 use Rattle.blocks.specs.declared.Rounded.the-variants.{Class}
-use Rattle.blocks.proofs.Powers.{exp-le}
-use Rattle.blocks.proofs.Rounding.{size-is, least-of, class-is, above-is}
+use Rattle.blocks.proofs.Rounding.{size-is, counted, class-is, above-is}
 use Rattle.blocks.proofs.round.Statement.{statement}
 use Rattle.blocks.proofs.round.Tie as tie
 
 at-0 : Class 0 ≡ rounded 0
 unfolding rounded firstHolding
 at-0 = refl
-
--- the count of leading zeros gives the least class that holds the count
-counted : (n : ℕ) → 0 < n → n ≤ 2 ^ 32 → Class (64 - leadingZeros 64 (n - 1)) ≡ rounded n
-counted n p h =
-    let t = leading-length 64 (n - 1) (omega arith) in
-    let e : 64 - leadingZeros 64 (n - 1) ≡ t .0 = omega arith in
-    let l : t .0 ≤ 32 = exp-le (t .0) 32 (omega arith) in
-    rw e (sym (class-is n (t .0) (least-of n (t .0) l (omega arith) (t .3))))
 
 size-of-requires : tie.Need-size-of-requires
 size-of-requires c κs = search needs
@@ -42,7 +33,9 @@ cast-t6 : tie.Need-cast-t6
 cast-t6 c = search needs
 
 returns-3 : tie.Need-returns-3
-returns-3 c = counted (c .before .before .before .args .count) (omega arith) (omega (arith, c .before .before .size-of .ensures, size-is 32 (omega arith)))
+returns-3 c =
+    let n = c .before .before .before .args .count in
+    sym (class-is n (64 - leadingZeros 64 (n - 1)) (counted n (omega (arith, c .before .before .size-of .ensures, size-is 32 (omega arith)))))
 
 pub round-spec : {M : Type 1} → statement M
 round-spec = tie.close (tie.spec size-of-requires returns returns-2 sub-t2 sub-t5 cast-t6 returns-3)
