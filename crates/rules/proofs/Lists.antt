@@ -4,11 +4,15 @@ use mathlib.Core.Bool.{Bool, true, false, not, _&&_, true≢false, or-false}
 use mathlib.Core.List.{List, [], _∷_, _++_}
 use Prim.Native.Nat.{ℕ, _+_, _^_, _≤_, _<_}
 use native.Mathlib.Omega.{arith}
+use native.Mathlib.Decide.{decLt}
+use native.Mathlib.Numerals.{add-one}
 use lib.Pow.{pow-pos}
+use lib.ListN.{length, take, drop, drop-of-length-le}
+use lib.Seq.{split-at, drop-cons}
 use lib.Dec.{eqb}
 use borrow.Author.Tests.{eqb-true, lt-ltb, le-ltb}
 use Rattle.rules.specs.Aligned.{Aligned}
-use Rattle.rules.specs.Rules.{Block, blk, class, start, end, Sound, none, next, isFree, isGranted, some, without, insert}
+use Rattle.rules.specs.Rules.{Block, blk, class, start, end, Sound, none, next, isFree, isGranted, some, without, insert, blockAt}
 
 -- every block of the list ends at or before f; starts at or after f
 pub data Below (f : ℕ) : List Block → Type 0 where
@@ -26,6 +30,10 @@ above-le {e} h (and-above {s = s} l a) = let m : e ≤ s = omega arith in and-ab
 pub below-le : {e f : ℕ} {bs : List Block} → e ≤ f → Below e bs → Below f bs
 below-le h none-below = none-below
 below-le {e} {f} h (and-below {k = k} {s = s} l a) = let m : s + 2 ^ k ≤ f = omega arith in and-below m (below-le h a)
+
+pub below-snoc : {f : ℕ} (xs : List Block) (b : Block) → Below f xs → end b ≤ f → Below f (xs ++ (b ∷ []))
+below-snoc [] (blk g k s) none-below h = and-below h none-below
+below-snoc (x ∷ xs) b (and-below l w) h = and-below l (below-snoc xs b w h)
 
 -- ---- a sound list: what stands before a place lies below it, and what stands after lies above
 
@@ -51,6 +59,24 @@ stands (blk i j t ∷ xs) b ys (next l h a e r) =
     let w = stands xs b ys r in
     let m : t + 2 ^ j ≤ start b = floor-le xs b ys r in
     record { before = and-below m (w .before); small = w .small; aligned = w .aligned; within = w .within; after = w .after }
+
+-- the same at a place i of the list
+pub split-here : (i : ℕ) (bs : List Block) → i < length bs → bs ≡ take i bs ++ (blockAt i bs ∷ drop (i + 1) bs)
+split-here i bs h = rw add-one (split-at bs i (blk false 0 0) h)
+
+pub stands-at : {top : ℕ} (i : ℕ) (bs : List Block) → Sound top 0 bs → i < length bs → Stands top (take i bs) (blockAt i bs) (drop (i + 1) bs)
+stands-at i bs r h = stands (take i bs) (blockAt i bs) (drop (i + 1) bs) (rw (split-here i bs h) at r)
+
+-- from a place on, every block starts at or after e where the first does
+pub clear-from : {top : ℕ} (e i : ℕ) (bs : List Block) → Sound top 0 bs → (i < length bs → e ≤ start (blockAt i bs)) → Above e (drop i bs)
+clear-from {top} e i bs r f = go (decLt i (length bs))
+  where
+    whole : (b : Block) → e ≤ start b → Stands top (take i bs) b (drop (i + 1) bs) → Above e (b ∷ drop (i + 1) bs)
+    whole (blk g k t) m v = let u : e ≤ t + 2 ^ k = omega arith in and-above m (above-le u (sound-above (v .after)))
+
+    go : Dec (i < length bs) → Above e (drop i bs)
+    go (yes h) = rw (drop-cons bs i (blk false 0 0) h, ← add-one i) (whole (blockAt i bs) (f h) (stands-at i bs r h))
+    go (no h) = rw (drop-of-length-le bs {i = i} (omega arith)) none-above
 
 -- ---- putting a block into its place
 

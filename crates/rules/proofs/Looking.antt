@@ -1,20 +1,22 @@
 -- Looking for a block: what the place of a frame says of the list, and which block a request finds there. Assumes nothing.
 use mathlib.Core.Path.{_≡_, refl, sym, ap, _∙_}
 use mathlib.Core.Bool.{Bool, true, false, not, _&&_, and-false}
-use mathlib.Core.List.{List, [], _∷_, _++_}
+use mathlib.Core.List.{List, [], _∷_, _++_, append-assoc}
 use Prim.Native.Nat.{ℕ, suc, _+_, _^_, _≤_, _<_}
 use native.Mathlib.Omega.{arith}
 use native.Mathlib.Nat.{add-zero}
 use lib.Pow.{pow-pos}
 use lib.Dec.{leb, ltb}
-use lib.ListN.{length, take, drop, take-append-drop}
-use lib.Seq.{split-at, length-take-le}
-use native.Mathlib.Numerals.{add-one}
+use lib.ListN.{length, take, drop, take-append-drop, length-append}
+use lib.Seq.{length-take-le}
 use borrow.Author.Tests.{ltb-true, ltb-false, lt-ltb, le-ltb, lt-leb}
 use Rattle.rules.specs.Rules.{Block, blk, start, end, Sound, next, isGranted, some, contains, containing, firstFrom, placeFrom, placeOf, blockAt}
 use Rattle.rules.specs.declared.Found.the-variants.{At, Nowhere}
 use Rattle.rules.specs.declared.Place.the-variants.{Inside, Gap}
-use Rattle.rules.proofs.Lists.{Below, none-below, and-below, Above, none-above, and-above, above-le, below-le, sound-above, Stands, stands, Misses, none-misses, and-misses, misses-append, misses-below, misses-above, granted-picks, some-misses, some-at}
+use Rattle.rules.proofs.Lists.{Below, none-below, and-below, Above, none-above, and-above, above-le, below-le, sound-above, Stands, split-here, stands-at, clear-from, below-snoc, Misses, none-misses, and-misses, misses-append, misses-below, misses-above, granted-picks, some-misses, some-at}
+
+front : (i : ℕ) (bs : List Block) → i < length bs → length (take i bs) ≡ i
+front i bs h = length-take-le i bs (omega arith)
 
 -- ---- the place of a frame
 
@@ -40,6 +42,27 @@ place-gap f xs ys w a =
     here : (i : ℕ) (zs : List Block) → Above (suc f) zs → placeFrom f i zs ≡ Gap i
     here i [] none-above = refl
     here i (blk g k s ∷ zs) (and-above l b) = rw (lt-ltb f s (omega arith), placeFrom) refl
+
+-- ---- the place, found by a search for the number p of blocks that start at or before the frame
+
+module _ {top : ℕ} (f : ℕ) (bs : List Block) (r : Sound top 0 bs) where
+  pub found-none : (0 < length bs → f < start (blockAt 0 bs)) → placeOf f bs ≡ Gap 0
+  found-none after = place-gap f [] bs none-below (clear-from (suc f) 0 bs r after)
+
+  module _ (m : ℕ) (h : m < length bs) (low : start (blockAt m bs) ≤ f) where
+    pub found-inside : f < end (blockAt m bs) → placeOf f bs ≡ Inside m
+    found-inside high =
+        ap (placeOf f) (split-here m bs h)
+        ∙ place-inside f (take m bs) (blockAt m bs) (drop (m + 1) bs) (below-le low (stands-at m bs r h .before)) low high
+        ∙ ap Inside (front m bs h)
+
+    pub found-gap : end (blockAt m bs) ≤ f → (m + 1 < length bs → f < start (blockAt (m + 1) bs)) → placeOf f bs ≡ Gap (m + 1)
+    found-gap high after =
+        let l : List Block = take m bs ++ (blockAt m bs ∷ []) in
+        let n : length l ≡ m + 1 = simp length-append (omega (arith, front m bs h)) in
+        ap (placeOf f) (split-here m bs h ∙ sym (append-assoc (take m bs) (blockAt m bs ∷ []) (drop (m + 1) bs)))
+        ∙ place-gap f l (drop (m + 1) bs) (below-snoc (take m bs) (blockAt m bs) (below-le low (stands-at m bs r h .before)) high) (clear-from (suc f) (m + 1) bs r after)
+        ∙ ap Gap n
 
 -- ---- what a place says of the list
 
@@ -105,14 +128,7 @@ inside-is {top} f i bs r e =
     let w = inside-from f 0 i bs e in
     let a : w .n ≡ i = omega (arith, w .at) in
     let h : i < length bs = omega (arith, w .here) in
-    let q : bs ≡ take i bs ++ (blockAt i bs ∷ drop (i + 1) bs) = rw add-one (split-at bs i (blk false 0 0) h) in
-    record {
-      here = h;
-      low = rw a at (w .low);
-      high = rw a at (w .high);
-      split = q;
-      stand = stands (take i bs) (blockAt i bs) (drop (i + 1) bs) (rw q at r);
-    }
+    record { here = h; low = rw a at (w .low); high = rw a at (w .high); split = split-here i bs h; stand = stands-at i bs r h }
 
 -- no block has the frame f: those before i end at or before it, and the others start after it
 pub record GapAt (f i : ℕ) (bs : List Block) : Type 0 where
@@ -159,13 +175,10 @@ module _ {top : ℕ} (c run i : ℕ) (bs : List Block) (w : InsideAt top run i b
   after-run : Misses (contains c run) (drop (i + 1) bs)
   after-run = no-run-above c run (sound-above (w .stand .after)) (w .high)
 
-  front : length (take i bs) ≡ i
-  front = length-take-le i bs (let h : i < length bs = w .here in omega arith)
-
   pub contained : contains c run (blockAt i bs) ≡ true → containing c run bs ≡ At i
   unfolding containing
   contained e =
-      let q : 0 + length (take i bs) ≡ i = omega (arith, front) in
+      let q : 0 + length (take i bs) ≡ i = omega (arith, front i bs (w .here)) in
       ap (firstFrom (contains c run) 0) (w .split) ∙ first-past (contains c run) 0 (blockAt i bs ∷ drop (i + 1) bs) before-run
       ∙ rw (e, firstFrom) (ap At q)
 

@@ -5,10 +5,10 @@ use mathlib.Core.List.{List, _∷_, _++_}
 use Prim.Native.Nat.{ℕ, suc, _+_, _-_, _^_, _≤_, _<_}
 use native.Mathlib.Omega.{arith}
 use lib.Pow.{pow-pos}
-use lib.ListN.{length, take, drop, take-append-drop, drop-of-length-le}
+use lib.ListN.{length, take, drop, take-append-drop}
 use lib.Seq.{split-at, drop-cons}
 use Rattle.rules.specs.Rules.{Block, blk, start, end, Sound, some, overlaps, added, blockAt}
-use Rattle.rules.proofs.Lists.{Above, none-above, and-above, above-le, sound-above, Stands, stands}
+use Rattle.rules.proofs.Lists.{Above, and-above}
 use Rattle.rules.proofs.Adding.{piecesOf, added-at, apart, overlap-at}
 use Rattle.rules.proofs.Looking.{InsideAt, GapAt}
 
@@ -34,17 +34,6 @@ module _ {top : ℕ} (s e i : ℕ) (bs : List Block) (r : Sound top 0 bs) (w : G
       later h =
           let a : Above (suc s) (blockAt i bs ∷ drop (suc i) bs) = rw (drop-cons bs i (blk false 0 0) h) at (w .after) in
           omega (arith, first (blockAt i bs) (drop (suc i) bs) a, tall (blockAt i bs))
-
-  -- the first block after the gap starts at or after the range's end
-  pub clear-next : i < length bs → e ≤ start (blockAt i bs) → Above e (drop i bs)
-  clear-next h g = rw (drop-cons bs i (blk false 0 0) h) (whole (blockAt i bs) g (stands (take i bs) (blockAt i bs) (drop (suc i) bs) (rw (split-at bs i (blk false 0 0) h) at r)))
-    where
-      whole : (b : Block) → e ≤ start b → Stands top (take i bs) b (drop (suc i) bs) → Above e (b ∷ drop (suc i) bs)
-      whole (blk g k t) m v = let u : e ≤ t + 2 ^ k = omega arith in and-above m (above-le u (sound-above (v .after)))
-
-  -- there is no block after the gap
-  pub clear-end : length bs ≤ i → Above e (drop i bs)
-  clear-end h = rw (drop-of-length-le bs {i = i} h) none-above
 
   pub apart-here : Above e (drop i bs) → some (overlaps s e) bs ≡ false
   apart-here a = ap (some (overlaps s e)) (sym (take-append-drop i bs)) ∙ apart s e (w .before) a
