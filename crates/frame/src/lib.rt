@@ -1,1 +1,2 @@
 // The public calls on a frame table.
+mod pick;

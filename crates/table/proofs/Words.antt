@@ -1,0 +1,36 @@
+-- Parts of a list by index, words or-ed together, and a bit by a shift. Assumes nothing.
+use mathlib.Core.Path.{_≡_, refl, sym, ap, _∙_}
+use mathlib.Core.List.{List, [], _∷_}
+use Prim.Native.Nat.{ℕ, _+_, _-_, _*_, _/_, _%_, _^_, _≤_, _<_}
+use native.Mathlib.Nat.{one-mul}
+use native.Mathlib.Omega.{arith}
+use lib.ListN.{length, getD, take, drop, length-take, drop-of-length-le}
+use lib.Seq.{slice}
+use lib.Pow.{shl-exact}
+use lib.Bits.{bitOr, bitAnd, or-add-and, and-le-l, and-le-r, or-shr, or-mod}
+use Rattle.table.specs.Layout.{classOf, gapOf}
+
+pub slice-past : (i e : ℕ) (ws : List ℕ) → e ≤ i → slice i e ws ≡ []
+slice-past i e ws h = drop-of-length-le (take e ws) {i = i} (simp length-take (omega arith))
+
+-- `1 << k`, of 32 or 64 bits
+pub bit : (k width : ℕ) → k < width → 1 * 2 ^ k % 2 ^ width ≡ 2 ^ k
+bit k width h = shl-exact 1 k width (omega arith) (omega arith) ∙ simp one-mul
+
+-- each of two numbers or-ed is at most the result
+pub or-le : (a b : ℕ) → (a ≤ bitOr a b) × (b ≤ bitOr a b)
+or-le a b =
+    let s = or-add-and a b in
+    let l = and-le-l a b in
+    let r = and-le-r a b in
+    (omega arith, omega arith)
+
+pub or-zero : (a b : ℕ) → bitOr a b ≡ 0 → (a ≡ 0) × (b ≡ 0)
+or-zero a b e = let h = or-le a b in (omega arith, omega arith)
+
+-- the fields of words or-ed
+pub or-gap : (a b : ℕ) → gapOf (bitOr a b) ≡ bitOr (gapOf a) (gapOf b)
+or-gap a b = rw (or-shr a b 32) (or-mod (a / 2 ^ 32) (b / 2 ^ 32) 25)
+
+pub or-class : (a b : ℕ) → classOf (bitOr a b) ≡ bitOr (classOf a) (classOf b)
+or-class a b = rw (or-shr a b 57) (or-mod (a / 2 ^ 57) (b / 2 ^ 57) 6)
