@@ -5,7 +5,7 @@ use Prim.Native.Nat.{ℕ, _-_, _%_, _^_}
 use lib.Dec.{eqb, leb, ltb}
 use lib.ListN.{length}
 use Rattle.answers.specs.declared.Refusal.{Refusal}
-use Rattle.answers.specs.declared.Refusal.the-variants.{BadState, BadRange, Overlap, BadAlign, Misaligned, NoBlock, NotGranted, NoRoom}
+use Rattle.answers.specs.declared.Refusal.the-variants.{BadOrder, BadSize, BadState, BadRange, Overlap, BadAlign, Misaligned, NoBlock, NotGranted, NoRoom}
 use Rattle.answers.specs.Paper.{numberOf}
 use Rattle.blocks.specs.declared.Rounded.{Rounded}
 use Rattle.blocks.specs.declared.Rounded.the-variants.{Class, Above}
@@ -101,14 +101,18 @@ decide (Dealloc s n) order capacity bs = releasing s (wanted (rounded n)) order 
 decide (DeallocAligned s n a) order capacity bs = alignedTo a (releasing s (wanted (roundedAligned n a)) order bs)
 decide Summary order capacity bs = done (framesOf granted bs ∷ framesOf (λ b. true) bs ∷ largestFree bs ∷ []) bs
 
--- ---- over words: the number, the values and the words afterwards
+-- ---- over words: what the call answers, and the words afterwards
 
-pub record Outcome : Type 0 where
+-- an answer on paper: its number, and its value or, of a summary, its three figures
+pub record Reply : Type 0 where
   pub number : ℕ
   pub values : List ℕ
+
+pub record Outcome : Type 0 where
+  pub reply : Reply
   pub words : List ℕ
 
--- "Each returns its number and 0 (every figure of a summary 0), and changes no word."
+-- "Each returns its number and 0 (every figure of a summary 0)"
 abbrev pub zeros : Call → List ℕ
 zeros Summary = 0 ∷ 0 ∷ 0 ∷ []
 zeros (Add s e) = 0 ∷ []
@@ -118,13 +122,23 @@ zeros (AllocAt s n) = 0 ∷ []
 zeros (Dealloc s n) = 0 ∷ []
 zeros (DeallocAligned s n a) = 0 ∷ []
 
-abbrev pub written : Call → List ℕ → Decision → Outcome
-written call ws (refused r) = record { number = numberOf r; values = zeros call; words = ws }
-written call ws (done vs bs) = record { number = 0; values = vs; words = wordsOf (length ws) (record { order = stateOf ws .order; blocks = bs }) }
+-- ", and changes no word. An accepted call returns number 0"
+abbrev pub carried : List ℕ → List ℕ → Decision → Outcome
+carried none ws (refused r) = record { reply = record { number = numberOf r; values = none }; words = ws }
+carried none ws (done vs bs) = record { reply = record { number = 0; values = vs }; words = wordsOf (length ws) (record { order = stateOf ws .order; blocks = bs }) }
 
 -- "Every call on an existing table tests this first."
 unfoldable pub outcome : Call → List ℕ → Outcome
 outcome call ws = elim (soundb ws) [
-  | true ↦ written call ws (decide call (stateOf ws .order) (length ws - 1) (stateOf ws .blocks))
-  | false ↦ written call ws (refused BadState)
+  | true ↦ carried (zeros call) ws (decide call (stateOf ws .order) (length ws - 1) (stateOf ws .blocks))
+  | false ↦ carried (zeros call) ws (refused BadState)
 ]
+
+-- ---- making: "Making a table writes word 0 with no records and zeroes the rest", over any words
+unfoldable pub making : ℕ → List ℕ → Outcome
+making order ws =
+    made (judge (refuse (ltb order 1 || ltb 33 order) BadOrder ∷ refuse (ltb (length ws) 1 || ltb 65536 (length ws)) BadSize ∷ []) (done (0 ∷ []) []))
+  where
+    made : Decision → Outcome
+    made (refused r) = carried (0 ∷ []) ws (refused r)
+    made (done vs bs) = record { reply = record { number = 0; values = vs }; words = wordsOf (length ws) (record { order = order; blocks = bs }) }

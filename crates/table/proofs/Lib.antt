@@ -1,3 +1,10 @@
 pub mod Tests
 pub mod Facts
 pub mod Words
+pub mod Rows
+pub mod Zeros
+pub mod Pad
+pub mod State
+pub mod Moving
+pub mod Writing
+pub mod Replacing

@@ -1,13 +1,15 @@
-// The words of a frame table.
+// The words of a frame table: their fields, whether a table is sound, where a frame is, and the splice.
 mod layout;
+mod pack;
+mod scan;
+mod splice;
 
 pub use layout::class_of;
 pub use layout::count_of;
 pub use layout::end_of;
-pub use layout::gap_of;
-pub use layout::mark_of;
 pub use layout::order_of;
-pub use layout::over_of;
-pub use layout::rest_of;
-pub use layout::size_of;
 pub use layout::start_of;
+pub use pack::head_word;
+pub use pack::record_word;
+pub use scan::sound;
+pub use splice::move_tail;

@@ -1,0 +1,35 @@
+-- What the promises of the calls say: the answer and every lent word afterwards are the outcome's.
+use mathlib.Core.Path.{_≡_}
+use mathlib.Core.List.{List, [], _∷_}
+use Prim.Native.Nat.{ℕ}
+use Rattle.answers.specs.declared.Answer.{Answer}
+use Rattle.answers.specs.Paper.{paper}
+use Rattle.frame.specs.Outcome.{Call, Reply, Outcome, outcome}
+
+abbrev pub replyOf : Answer → Reply
+replyOf a = record { number = paper a .number; values = paper a .value ∷ [] }
+
+-- a reply and the words after are those of an outcome
+pub record Says (o : Outcome) (r : Reply) (after : List ℕ) : Type 0 where
+  pub reply : r ≡ o .reply
+  pub words : after ≡ o .words
+
+-- the promise of a call: from the words before to the words after, with the answer a
+abbrev pub Told : Call → List ℕ → Answer → List ℕ → Type 0
+Told call before a after = Says (outcome call before) (replyOf a) after
+
+-- ---- runs of calls: what the definition replies, one call after the other, and the words at the end
+
+abbrev pub replies : List Call → List ℕ → List Reply
+replies [] ws = []
+replies (c ∷ cs) ws = outcome c ws .reply ∷ replies cs (outcome c ws .words)
+
+abbrev pub last : List Call → List ℕ → List ℕ
+last [] ws = ws
+last (c ∷ cs) ws = last cs (outcome c ws .words)
+
+-- a chain of calls that each meet the promise
+pub data Chain : List Call → List ℕ → List Reply → List ℕ → Type 0 where
+  done : {ws : List ℕ} → Chain [] ws [] ws
+  call : {c : Call} {cs : List Call} {before middle after : List ℕ} {r : Reply} {rs : List Reply} → Says (outcome c before) r middle → Chain cs middle rs after
+      → Chain (c ∷ cs) before (r ∷ rs) after
