@@ -5,6 +5,7 @@ pub mod Rows
 pub mod Zeros
 pub mod Pad
 pub mod State
+pub mod Search
 pub mod Moving
 pub mod Writing
 pub mod Replacing

@@ -5,16 +5,14 @@ use mathlib.Core.Bool.{Bool, true, false}
 use mathlib.Core.Logic.{_≢_}
 use mathlib.Core.List.{List, [], _∷_, _++_, map}
 use Prim.Native.Nat.{ℕ, zero, suc, _+_, _-_, _%_, _^_, _≤_, _<_}
-use native.Mathlib.Numerals.{add-one}
 use native.Mathlib.Omega.{arith}
 use lib.Dec.{leb, eqb}
 use lib.ListN.{length, take, drop, getD, replicate, take-append-drop, length-drop, length-map, List·getD-map}
 use lib.Pow.{pow-pos}
 use lib.Seq.{slice, slice-cons, length-slice, take-at, drop-at, getD-take, getD-drop}
-use borrow.Author.Tests.{eqb-true, eqb-false, eq-eqb, ne-eqb, leb-true, le-leb}
-use Rattle.rules.specs.Aligned.{Aligned}
+use borrow.Author.Tests.{eqb-true, eqb-false, leb-true, le-leb}
 use Rattle.rules.specs.Rules.{Block, blk, Sound, none, next, blockAt}
-use Rattle.table.specs.Layout.{State, orderOf, countOf, restOf, markOf, classOf, gapOf, startOf, endOf, blockOf, records, blocksOf, stateOf, wordOf, headOf, wordsOf}
+use Rattle.table.specs.Layout.{State, orderOf, countOf, markOf, classOf, gapOf, startOf, endOf, blockOf, records, blocksOf, stateOf, wordOf, headOf, wordsOf}
 use Rattle.table.specs.Sound.{recordb, recordsb, apartb, zerosb, soundb}
 use Rattle.table.proofs.Tests.{both, join}
 use Rattle.table.proofs.Facts.{record-true, record-fact, sound-true, sound-fact}

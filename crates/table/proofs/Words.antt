@@ -1,13 +1,13 @@
 -- Parts of a list by index, words or-ed together, and a bit by a shift. Assumes nothing.
-use mathlib.Core.Path.{_≡_, refl, sym, ap, _∙_}
-use mathlib.Core.List.{List, [], _∷_}
-use Prim.Native.Nat.{ℕ, _+_, _-_, _*_, _/_, _%_, _^_, _≤_, _<_}
+use mathlib.Core.Path.{_≡_, _∙_}
+use mathlib.Core.List.{List, []}
+use Prim.Native.Nat.{ℕ, _*_, _/_, _%_, _^_, _≤_, _<_}
 use native.Mathlib.Nat.{one-mul}
 use native.Mathlib.Omega.{arith}
-use lib.ListN.{length, getD, take, drop, length-take, drop-of-length-le}
+use lib.ListN.{take, length-take, drop-of-length-le}
 use lib.Seq.{slice}
 use lib.Pow.{shl-exact}
-use lib.Bits.{bitOr, bitAnd, or-add-and, and-le-l, and-le-r, or-shr, or-mod}
+use lib.Bits.{bitOr, or-add-and, and-le-l, and-le-r, or-shr, or-mod}
 use Rattle.table.specs.Layout.{classOf, gapOf}
 
 pub slice-past : (i e : ℕ) (ws : List ℕ) → e ≤ i → slice i e ws ≡ []

@@ -1,5 +1,5 @@
 -- "A table is sound if ..", from docs/RULES.md, "The frame table", as a test that computes, in the order of that sentence.
-use mathlib.Core.Bool.{Bool, true, false, _&&_}
+use mathlib.Core.Bool.{Bool, true, _&&_}
 use mathlib.Core.List.{List, [], _∷_}
 use Prim.Native.Nat.{ℕ, _+_, _-_, _%_, _^_}
 use lib.Dec.{leb, ltb, eqb}

@@ -1,5 +1,6 @@
 // The words of a frame table: their fields, whether a table is sound, where a frame is, and the splice.
 mod layout;
+mod lookup;
 mod pack;
 mod scan;
 mod splice;
@@ -9,6 +10,7 @@ pub use layout::count_of;
 pub use layout::end_of;
 pub use layout::order_of;
 pub use layout::start_of;
+pub use lookup::place;
 pub use pack::head_word;
 pub use pack::record_word;
 pub use scan::sound;

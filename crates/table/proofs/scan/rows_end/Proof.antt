@@ -3,7 +3,6 @@ use Prim.Native.Nat.{suc, _+_, _-_, _≤_}
 use mathlib.Core.Path.{_≡_, sym, _∙_}
 use mathlib.Core.Bool.{cond}
 use native.Mathlib.Omega.{arith}
-use lib.ListN.{length}
 use lib.Seq.{slice}
 use borrow.Author.Needs.{needs}
 use Rattle.table.specs.Scan.{below33, cleanb, endAfter}

@@ -1,6 +1,6 @@
 -- `table::splice::move_down` meets its contract: the words below k have moved. Assumes nothing.
 use mathlib.Core.Path.{_≡_, refl, ap, _∙_}
-use Prim.Native.Nat.{ℕ, _+_, _-_, _≤_}
+use Prim.Native.Nat.{ℕ, _-_, _≤_}
 use native.Mathlib.Omega.{arith}
 use lib.ListN.{length, length-set}
 use Rattle.table.proofs.Moving.{moved-down, down-turn, down-none}

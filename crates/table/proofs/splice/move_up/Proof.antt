@@ -1,6 +1,6 @@
 -- `table::splice::move_up` meets its contract: the words from k on have moved. Assumes nothing.
 use mathlib.Core.Path.{_≡_, refl, ap, _∙_}
-use Prim.Native.Nat.{ℕ, _+_, _-_, _≤_}
+use Prim.Native.Nat.{ℕ, _-_, _≤_}
 use native.Mathlib.Omega.{arith}
 use lib.ListN.{length, length-set}
 use Rattle.table.proofs.Moving.{moved-up, up-turn, up-none}
