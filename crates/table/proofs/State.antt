@@ -141,17 +141,31 @@ module _ (ws : List ℕ) (sound : soundb ws ≡ true) where
       List·getD-map blockOf (records ws) i 0
       ∙ ap blockOf (getD-drop 1 (take n ws) i 0 ∙ getD-take n ws (1 + i) 0 (omega arith) ∙ ap (λ (k : ℕ). getD ws k 0) e)
 
-  -- its words are those of its state
-  pub table-is : ((i : ℕ) → getD ws i 0 < 2 ^ 64) → ws ≡ wordsOf (length ws) (stateOf ws)
-  table-is h =
-      let x = sound-fact ws sound in
-      let n : ℕ = countOf (getD ws 0 0) + 1 in
-      let c : length (blocksOf ws) ≡ countOf (getD ws 0 0) = length-blocks in
-      let z : drop n ws ≡ replicate (length ws - n) 0 = zeros-are (drop n ws) (x .zeros) ∙ ap (λ (k : ℕ). replicate k 0) (length-drop n ws) in
-      let b : map wordOf (blocksOf ws) ≡ records ws = words-back (orderOf (getD ws 0 0)) (records ws) (x .fine) (λ i. rw (getD-drop 1 (take n ws) i 0) (front-below n ws (2 ^ 64) (omega arith) h (1 + i))) in
-      let f : headOf (stateOf ws) ≡ getD ws 0 0 = omega arith in
-      let m : suc (length (records ws)) ≡ n = omega (arith, length-records) in
-      sym (take-append-drop n ws) ∙ rw (slice-cons 0 n ws 0 (omega arith) (omega arith), z, f, b, pad-fits (length ws) (getD ws 0 0 ∷ records ws) (omega arith), m)
+  -- its words are those of its blocks, and of its state
+  module _ (below : (i : ℕ) → getD ws i 0 < 2 ^ 64) where
+    words-of-records : map wordOf (blocksOf ws) ≡ records ws
+    words-of-records =
+        let x = sound-fact ws sound in
+        let n : ℕ = countOf (getD ws 0 0) + 1 in
+        words-back (orderOf (getD ws 0 0)) (records ws) (x .fine) (λ i. rw (getD-drop 1 (take n ws) i 0) (front-below n ws (2 ^ 64) (omega arith) below (1 + i)))
+
+    pub word-at : (i : ℕ) → i < countOf (getD ws 0 0) → getD ws (i + 1) 0 ≡ wordOf (blockAt i (blocksOf ws))
+    word-at i h =
+        let n : ℕ = countOf (getD ws 0 0) + 1 in
+        let e : i + 1 ≡ 1 + i = omega arith in
+        ap (λ (k : ℕ). getD ws k 0) e ∙ sym (getD-take n ws (1 + i) 0 (omega arith)) ∙ sym (getD-drop 1 (take n ws) i 0)
+        ∙ ap (λ (l : List ℕ). getD l i 0) (sym words-of-records) ∙ List·getD-map wordOf (blocksOf ws) i (blk false 0 0)
+
+    pub table-is : ws ≡ wordsOf (length ws) (stateOf ws)
+    table-is =
+        let x = sound-fact ws sound in
+        let n : ℕ = countOf (getD ws 0 0) + 1 in
+        let c : length (blocksOf ws) ≡ countOf (getD ws 0 0) = length-blocks in
+        let z : drop n ws ≡ replicate (length ws - n) 0 = zeros-are (drop n ws) (x .zeros) ∙ ap (λ (k : ℕ). replicate k 0) (length-drop n ws) in
+        let f : headOf (stateOf ws) ≡ getD ws 0 0 = omega arith in
+        let m : suc (length (records ws)) ≡ n = omega (arith, length-records) in
+        sym (take-append-drop n ws)
+        ∙ rw (slice-cons 0 n ws 0 (omega arith) (omega arith), z, f, words-of-records, pad-fits (length ws) (getD ws 0 0 ∷ records ws) (omega arith), m)
 
 -- ---- what the words of a state say
 
