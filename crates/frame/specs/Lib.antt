@@ -1,3 +1,4 @@
 pub mod Outcome
 pub mod Pick
 pub mod Told
+pub mod Release

@@ -1,2 +1,3 @@
 // The public calls on a frame table.
 mod pick;
+mod release;

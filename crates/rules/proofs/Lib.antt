@@ -7,3 +7,4 @@ pub mod Looking
 pub mod Ranges
 pub mod Serving
 pub mod Halving
+pub mod Spanning

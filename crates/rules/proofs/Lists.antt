@@ -35,6 +35,10 @@ pub below-snoc : {f : ℕ} (xs : List Block) (b : Block) → Below f xs → end 
 below-snoc [] (blk g k s) none-below h = and-below h none-below
 below-snoc (x ∷ xs) b (and-below l w) h = and-below l (below-snoc xs b w h)
 
+pub ends-below : {f : ℕ} (xs : List Block) (b : Block) → Below f (xs ++ (b ∷ [])) → end b ≤ f
+ends-below [] (blk g k s) (and-below l w) = l
+ends-below (x ∷ xs) b (and-below l w) = ends-below xs b w
+
 -- ---- a sound list: what stands before a place lies below it, and what stands after lies above
 
 pub sound-above : {top f : ℕ} {bs : List Block} → Sound top f bs → Above f bs

@@ -1,0 +1,78 @@
+// A granted block becomes free and is joined with its buddies.
+ghost use mathlib.Core.Path.{_≡_};
+ghost use Rattle.frame.specs.Release.{Releasable, Joins, releasedAt};
+ghost use Rattle.frame.specs.Told.{Says, replyOf};
+use answers::Answer;
+
+// The records from place `from` up to, not including, `to` give way to one free block.
+struct Span {
+    from: usize,
+    to: usize,
+    class: u64,
+    start: u64,
+}
+
+// Joins the block at place i with its buddy while that is free: a free buddy stands next to it, so the span widens to one side.
+fn join(t: &[u64], i: usize) -> Span
+    requires { ⌜ Releasable (now t) i ⌝ }
+    ensures { λ r. ⌜ Joins (now (t .entry)) i (r .from) (r .to) (r .class) (r .start) ⌝ }
+{
+    let head = t[0];
+    let count = table::count_of(head);
+    let top = table::order_of(head) - 1;
+    let w = t[i + 1];
+    let mut from = i;
+    let mut to = i + 1;
+    let mut class = table::class_of(w);
+    let mut start = table::start_of(w);
+    while class < top {
+        let buddy = blocks::buddy(start, class);
+        let wanted = table::record_word(false, class, buddy);
+        if start < buddy {
+            if to == count {
+                return Span {
+                    from,
+                    to,
+                    class,
+                    start,
+                };
+            }
+            if t[to + 1] != wanted {
+                return Span {
+                    from,
+                    to,
+                    class,
+                    start,
+                };
+            }
+            to += 1;
+            class += 1;
+        } else {
+            if from == 0 {
+                return Span {
+                    from,
+                    to,
+                    class,
+                    start,
+                };
+            }
+            if t[from] != wanted {
+                return Span {
+                    from,
+                    to,
+                    class,
+                    start,
+                };
+            }
+            from -= 1;
+            start = buddy;
+            class += 1;
+        }
+    }
+    Span {
+        from,
+        to,
+        class,
+        start,
+    }
+}
