@@ -1,3 +1,4 @@
 pub mod Pass
 pub mod Chains
 pub mod Compared
+pub mod Spans
