@@ -1,6 +1,8 @@
 // A granted block becomes free and is joined with its buddies.
 ghost use mathlib.Core.Path.{_≡_};
+ghost use mathlib.Core.List.{[], _∷_};
 ghost use Rattle.frame.specs.Release.{Releasable, Joins, releasedAt};
+ghost use Rattle.frame.specs.Outcome.{carried};
 ghost use Rattle.frame.specs.Told.{Says, replyOf};
 use answers::Answer;
 
@@ -75,4 +77,20 @@ fn join(t: &[u64], i: usize) -> Span
         class,
         start,
     }
+}
+
+// The granted block at place i of a sound table becomes free, joined as far as its buddies are free: one splice.
+pub fn release_at(t: &mut [u64], i: usize) -> Answer
+    requires { ⌜ Releasable (now t) i ⌝ }
+    ensures { λ r. ⌜ Says (carried (0 ∷ []) (now (t .entry)) (releasedAt (now (t .entry)) i)) (replyOf r) (now (t .exit)) ⌝ }
+{
+    let head = t[0];
+    let count = table::count_of(head);
+    let span = join(t, i);
+    let from = span.from;
+    let to = span.to;
+    table::move_tail(t, to + 1, from + 2, count + 1);
+    t[from + 1] = table::record_word(false, span.class, span.start);
+    t[0] = table::head_word(table::order_of(head), (count - (to - from) + 1) as u64);
+    Answer::Done(0)
 }

@@ -1,4 +1,4 @@
-// Whether a frame table is sound. Every call tests it first, so each word is read once, and the loops have no branch but their end.
+// Whether a frame table is sound. Every call tests it first, so each word is read once, and the loops over words have no branch but their end.
 use crate::layout::class_of;
 use crate::layout::count_of;
 use crate::layout::end_of;
