@@ -1,9 +1,8 @@
 -- A record's word compared with the word of a free block: whether it is that block. Assumes nothing.
 use mathlib.Core.Path.{_≡_, refl, sym, ap, _∙_}
-use mathlib.Core.Bool.{Bool, true, false, not, _&&_, true≢false}
+use mathlib.Core.Bool.{Bool, true, false, true≢false}
 use mathlib.Core.List.{List}
 use Prim.Native.Nat.{ℕ, _+_, _%_, _^_, _<_}
-use lib.Dec.{eqb}
 use lib.ListN.{getD}
 use Rattle.rules.specs.Rules.{Block, blk, isFree, blockAt}
 use Rattle.rules.proofs.Lists.{free-picks}

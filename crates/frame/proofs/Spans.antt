@@ -1,15 +1,15 @@
 -- The span of a release, told by the words of a sound table: what each comparison of src/release.rt says of it. Assumes nothing.
-use mathlib.Core.Path.{_≡_, refl, sym, ap, _∙_, subst}
+use mathlib.Core.Path.{_≡_, refl, sym, ap, _∙_}
 use mathlib.Core.Bool.{true, false}
 use mathlib.Core.List.{List}
 use Prim.Native.Nat.{ℕ, _+_, _-_, _%_, _^_, _≤_, _<_}
 use native.Mathlib.Omega.{arith}
 use lib.ListN.{length, getD}
 use Rattle.blocks.specs.Blocks.{buddyOf}
-use Rattle.rules.specs.Rules.{Block, blk, granted, class, start, Sound, blockAt, released}
+use Rattle.rules.specs.Rules.{Block, blk, granted, class, start, Sound, blockAt}
 use Rattle.rules.proofs.Spanning as spanning
 use Rattle.rules.proofs.Spanning.{Spans, closed}
-use Rattle.table.specs.Layout.{orderOf, countOf, markOf, classOf, startOf, blockOf, blocksOf, wordOf}
+use Rattle.table.specs.Layout.{orderOf, countOf, classOf, startOf, blockOf, blocksOf, wordOf}
 use Rattle.table.proofs.Facts.{sound-fact}
 use Rattle.table.proofs.State.{sound-blocks, length-blocks, block-at}
 use Rattle.frame.specs.Release.{Releasable, afterRelease, Joins}

@@ -1,4 +1,6 @@
 pub mod Outcome
-pub mod Pick
 pub mod Told
+pub mod Pick
+pub mod Halve
+pub mod Add
 pub mod Release

@@ -1,9 +1,9 @@
 -- What the functions of src/release.rt ask and say. Internal to the release.
 use mathlib.Core.Path.{_≡_}
-use mathlib.Core.Bool.{Bool, true, false}
+use mathlib.Core.Bool.{true, false}
 use mathlib.Core.List.{List, [], _∷_, _++_}
 use Prim.Native.Nat.{ℕ, _+_, _-_, _^_, _≤_, _<_}
-use lib.ListN.{length, getD, take, drop}
+use lib.ListN.{getD, take, drop}
 use Rattle.rules.specs.Rules.{Block, blk, granted, class, start, blockAt, released}
 use Rattle.table.specs.Layout.{orderOf, countOf, blocksOf}
 use Rattle.table.specs.Sound.{soundb}

@@ -1,6 +1,6 @@
 -- `frame::release::join` meets its contract: the span stands for the block in hand, and what is left to join of it is the release. Assumes nothing.
-use mathlib.Core.Path.{_≡_, refl, sym, ap, _∙_}
-use Prim.Native.Nat.{ℕ, _+_, _-_, _≤_, _<_}
+use mathlib.Core.Path.{_≡_, ap}
+use Prim.Native.Nat.{ℕ, _-_, _≤_, _<_}
 use native.Mathlib.Omega.{arith}
 use lib.ListN.{length, getD}
 use Rattle.table.specs.Layout.{orderOf, countOf}

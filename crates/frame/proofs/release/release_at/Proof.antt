@@ -1,90 +1,101 @@
+-- `frame::release::release_at` meets its contract: the span that `join` found is closed by one splice. Assumes nothing.
+use mathlib.Core.Path.{refl}
+use native.Mathlib.Omega.{arith}
+use lib.ListN.{length-set}
+use Rattle.frame.proofs.Releases.{known, tail-clear, released}
 use borrow.Author.Needs.{needs}
 use Rattle.frame.proofs.release.release_at.Statement.{statement}
 use Rattle.frame.proofs.release.release_at.Tie as tie
-use Rattle.frame.proofs.release.release_at.Reads as reads
-use Rattle.frame.proofs.release.release_at.Lts as lts
-use Rattle.frame.proofs.release.join.Reads as join-reads
-use Rattle.table.proofs.count_of.Reads as count-of-reads
-use Rattle.table.proofs.order_of.Reads as order-of-reads
-use Rattle.table.proofs.head_word.Reads as head-word-reads
-use Rattle.table.proofs.record_word.Reads as record-word-reads
-use Rattle.table.proofs.move_tail.Reads as move-tail-reads
 
--- src/release.rt:87:16
 slice-read-head : tie.Need-slice-read-head
-slice-read-head c = search needs
+slice-read-head c =
+    let s = c .before .before in
+    let k = known (s .args .t .now) (s .args .i) _ (s .pre) refl in
+    omega (arith, k .long)
 
--- src/release.rt:88:9
 count-of-requires : tie.Need-count-of-requires
 count-of-requires c κs = search needs
 
--- src/release.rt:89:9
 join-requires : tie.Need-join-requires
 join-requires c κs = search needs
 
--- src/release.rt:92:25
 add-move-tail : tie.Need-add-move-tail
 add-move-tail c = search needs
 
--- src/release.rt:92:33
 add-move-tail-2 : tie.Need-add-move-tail-2
 add-move-tail-2 c = search needs
 
--- src/release.rt:92:43
 add-move-tail-3 : tie.Need-add-move-tail-3
 add-move-tail-3 c = search needs
 
--- src/release.rt:92:5
 move-tail-requires : tie.Need-move-tail-requires
-move-tail-requires c κs = search needs
+move-tail-requires c κs =
+    let n = c .before .before .before in
+    let g = n .before .before in
+    let s = g .before in
+    let k = known (s .args .t .now) (s .args .i) (n .count-of .result) (s .pre) (n .count-of .ensures) in
+    let w = c .before .join .ensures in (
+      omega (arith, w .within, n .count-of .ensures),
+      omega (arith, k .long),
+      omega (arith, w .low, w .high, k .long),
+      tail-clear (s .args .t .now) (s .args .i) (n .count-of .result) (s .pre) (n .count-of .ensures) (λ j. g .slice-known .given j .fits),
+    )
 
--- src/release.rt:93:19
 record-word-requires : tie.Need-record-word-requires
 record-word-requires c κs = search needs
 
--- src/release.rt:93:7
 add-t : tie.Need-add-t
 add-t c = search needs
 
--- src/release.rt:93:5
 mul-t : tie.Need-mul-t
 mul-t c = search needs
 
--- src/release.rt:93:5
 slice-write-t : tie.Need-slice-write-t
-slice-write-t c = search needs
+slice-write-t c =
+    let n = c .before .before .before .before .before .before .before in
+    let s = n .before .before .before in
+    let k = known (s .args .t .now) (s .args .i) (n .count-of .result) (s .pre) (n .count-of .ensures) in
+    let w = c .before .before .before .before .before .join .ensures in
+    omega (arith, w .low, k .here, k .long)
 
--- src/release.rt:94:29
 order-of-requires : tie.Need-order-of-requires
 order-of-requires c κs = search needs
 
--- src/release.rt:94:62
 sub-head-word : tie.Need-sub-head-word
 sub-head-word c = search needs
 
--- src/release.rt:94:53
 sub-head-word-2 : tie.Need-sub-head-word-2
 sub-head-word-2 c = search needs
 
--- src/release.rt:94:53
 add-head-word : tie.Need-add-head-word
 add-head-word c = search needs
 
--- src/release.rt:94:12
 head-word-requires : tie.Need-head-word-requires
 head-word-requires c κs = search needs
 
--- src/release.rt:94:5
 slice-write-t-2 : tie.Need-slice-write-t-2
-slice-write-t-2 c = search needs
+slice-write-t-2 c =
+    let n = c .before .before .before .before .before .before .before .before .before in
+    let s = n .before .before .before in
+    let k = known (s .args .t .now) (s .args .i) (n .count-of .result) (s .pre) (n .count-of .ensures) in
+    simp length-set (omega (arith, k .long))
 
--- src/release.rt:83:1
 same-length : tie.Need-same-length
 same-length c = search needs
 
--- src/release.rt:83:1
 returns : tie.Need-returns
-returns c = search needs
+returns c =
+    let o = c .before in
+    let r = o .before in
+    let m = r .before .before .before in
+    let j = m .before .before in
+    let n = j .before .before in
+    let g = n .before .before in
+    let s = g .before in
+    let a = s .args in
+    released (a .t .now) (a .i) (n .count-of .result) (s .pre) (n .count-of .ensures) (j .join .result .from) (j .join .result .to) (j .join .result .class) (j .join .result .start) (j .join .ensures)
+    (λ x. g .slice-known .given x .fits) (o .order-of .result) (c .head-word .result) (r .record-word .result) (m .move-tail .last .0) (o .order-of .ensures) (m .move-tail .ensures)
+    (r .record-word .ensures) (c .head-word .ensures)
 
 pub release-at-spec : {M : Type 1} → statement M
 release-at-spec =
