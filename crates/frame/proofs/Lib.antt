@@ -6,3 +6,4 @@ pub mod Pieces
 pub mod Compared
 pub mod Spans
 pub mod Releases
+pub mod Giving

@@ -1,10 +1,18 @@
 // A granted block becomes free and is joined with its buddies.
 ghost use mathlib.Core.Path.{_≡_};
+ghost use mathlib.Core.Bool.{true};
 ghost use mathlib.Core.List.{[], _∷_};
+ghost use Prim.Native.Nat.{_≤_};
+ghost use lib.ListN.{getD};
+ghost use Rattle.table.specs.Layout.{orderOf, blocksOf};
+ghost use Rattle.table.specs.Sound.{soundb};
 ghost use Rattle.frame.specs.Release.{Releasable, Joins, releasedAt};
-ghost use Rattle.frame.specs.Outcome.{carried};
+ghost use Rattle.frame.specs.Outcome.{carried, releasing, wanted};
 ghost use Rattle.frame.specs.Told.{Says, replyOf};
 use answers::Answer;
+use answers::Refusal;
+use blocks::Rounded;
+use rules::Place;
 
 // The records from place `from` up to, not including, `to` give way to one free block.
 struct Span {
@@ -93,4 +101,21 @@ pub fn release_at(t: &mut [u64], i: usize) -> Answer
     t[from + 1] = table::record_word(false, span.class, span.start);
     t[0] = table::head_word(table::order_of(head), (count - (to - from) + 1) as u64);
     Answer::Done(0)
+}
+
+// Releases the block at start of the class that a count was rounded to, if such a block is granted, in a sound table.
+pub fn release(t: &mut [u64], start: u64, size: Rounded) -> Answer
+    requires { ⌜ (soundb (now t) ≡ true) × (wanted size ≤ 33) ⌝ }
+    ensures { λ r. ⌜ Says (carried (0 ∷ []) (now (t .entry)) (releasing start (wanted size) (orderOf (getD (now (t .entry)) 0 0)) (blocksOf (now (t .entry))))) (replyOf r) (now (t .exit)) ⌝ }
+{
+    let Rounded::Class(class) = size else {
+        return Answer::Refused(Refusal::NotGranted);
+    };
+    let Place::Inside(i) = table::place(t, start) else {
+        return Answer::Refused(Refusal::NotGranted);
+    };
+    if t[i + 1] != table::record_word(true, class, start) {
+        return Answer::Refused(Refusal::NotGranted);
+    }
+    release_at(t, i)
 }
