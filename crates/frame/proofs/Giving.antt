@@ -1,10 +1,9 @@
 -- A release held to its rule: whether a block of that class is granted at that start, told by the place of the start. Assumes nothing.
 use mathlib.Core.Path.{_≡_, refl, sym, ap, _∙_}
-use mathlib.Core.Bool.{Bool, true, false, not, _&&_, true≢false}
+use mathlib.Core.Bool.{Bool, true, false, true≢false}
 use mathlib.Core.List.{List, [], _∷_}
 use Prim.Native.Nat.{ℕ, _+_, _-_, _%_, _^_, _≤_, _<_}
 use native.Mathlib.Omega.{arith}
-use lib.Dec.{eqb}
 use lib.ListN.{length, getD}
 use borrow.Author.Tests.{eq-eqb, ne-eqb}
 use Rattle.answers.specs.declared.Answer.the-variants.{Refused}
@@ -17,7 +16,7 @@ use Rattle.table.specs.Layout.{orderOf, countOf, blockOf, blocksOf, wordOf}
 use Rattle.table.specs.Sound.{soundb}
 use Rattle.table.proofs.Facts.{sound-fact}
 use Rattle.table.proofs.State.{sound-blocks, length-blocks, block-at, block-of-word, word-at, record-fits}
-use Rattle.frame.specs.Outcome.{Reply, refused, done, releasing, carried, judge, refuse}
+use Rattle.frame.specs.Outcome.{Reply, refused, done, releasing, carried}
 use Rattle.frame.specs.Release.{Releasable, releasedAt}
 use Rattle.frame.specs.Told.{Says, replyOf}
 

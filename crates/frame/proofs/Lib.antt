@@ -7,3 +7,4 @@ pub mod Compared
 pub mod Spans
 pub mod Releases
 pub mod Giving
+pub mod Granting

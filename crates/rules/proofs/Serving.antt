@@ -1,12 +1,13 @@
 -- The block that serves a grant, found in one pass over the list with the best block so far in hand. Assumes nothing.
 use mathlib.Core.Path.{_≡_, refl, sym, ap, _∙_}
-use mathlib.Core.Bool.{true, false}
+use mathlib.Core.Bool.{Bool, true, false, true≢false}
 use mathlib.Core.List.{List, [], _∷_}
 use Prim.Native.Nat.{ℕ, zero, suc, _+_, _≤_, _<_}
 use native.Mathlib.Nat.{add-zero}
 use native.Mathlib.Omega.{arith}
-use borrow.Author.Tests.{eq-eqb, ne-eqb}
-use Rattle.rules.specs.Rules.{Block, blk, firstFrom, freeIn, orElse, smallest}
+use lib.ListN.{length}
+use borrow.Author.Tests.{eqb-true, eq-eqb, ne-eqb}
+use Rattle.rules.specs.Rules.{Block, blk, class, granted, blockAt, firstFrom, freeIn, orElse, smallest}
 use Rattle.rules.specs.declared.Found.{Found}
 use Rattle.rules.specs.declared.Found.the-variants.{At, Nowhere}
 
@@ -41,3 +42,50 @@ granted-not-better k j s = refl
 pub none-left : (n c i : ℕ) → smallest n c i [] ≡ Nowhere
 none-left zero c i = refl
 none-left (suc n) c i = none-left n (suc c) i
+
+-- ---- what was found: a place of the list, with a free block that is large enough
+
+record FirstAt (p : Block → Bool) (o i : ℕ) (bs : List Block) : Type 0 where
+  n : ℕ
+  at : i ≡ o + n
+  here : n < length bs
+  passes : p (blockAt n bs) ≡ true
+
+first-at : (p : Block → Bool) (o i : ℕ) (bs : List Block) → firstFrom p o bs ≡ At i → FirstAt p o i bs
+first-at p o i [] e = let z : _≡_ {A = ℕ} 0 1 = cc in absurd (omega arith)
+first-at p o i (b ∷ bs) e = go (p b) refl (first-at p (o + 1) i bs)
+  where
+    go : (x : Bool) → p b ≡ x → (firstFrom p (o + 1) bs ≡ At i → FirstAt p (o + 1) i bs) → FirstAt p o i (b ∷ bs)
+    go true q ih =
+        let g : At o ≡ At i = rw (q, firstFrom) at e in
+        let h : o ≡ i = cc in
+        record { n = 0; at = omega arith; here = omega arith; passes = q }
+    go false q ih =
+        let w = ih (rw (q, firstFrom) at e) in
+        record { n = suc (w .n); at = omega (arith, w .at); here = omega (arith, w .here); passes = w .passes }
+
+pub record Serves (k i : ℕ) (bs : List Block) : Type 0 where
+  pub here : i < length bs
+  pub large : k ≤ class (blockAt i bs)
+  pub free : granted (blockAt i bs) ≡ false
+
+in-class : (k : ℕ) (b : Block) → freeIn k b ≡ true → (class b ≡ k) × (granted b ≡ false)
+in-class k (blk true j s) e = absurd (true≢false (sym e))
+in-class k (blk false j s) e = (eqb-true j k e, refl)
+
+pub serves : (n k i : ℕ) (bs : List Block) → smallest n k 0 bs ≡ At i → Serves k i bs
+serves zero k i bs e = let z : _≡_ {A = ℕ} 0 1 = cc in absurd (omega arith)
+serves (suc n) k i bs e = go (firstFrom (freeIn k) 0 bs) refl (serves n (suc k) i bs)
+  where
+    go : (f : Found) → firstFrom (freeIn k) 0 bs ≡ f → (smallest n (suc k) 0 bs ≡ At i → Serves (suc k) i bs) → Serves k i bs
+    go (At j) q ih =
+        let g : At j ≡ At i = rw q at e in
+        let h : j ≡ i = cc in
+        let w = first-at (freeIn k) 0 j bs q in
+        let a : w .n ≡ i = omega (arith, w .at) in
+        let p : freeIn k (blockAt i bs) ≡ true = rw a at (w .passes) in
+        let c = in-class k (blockAt i bs) p in
+        record { here = omega (arith, w .here); large = omega (arith, c .0); free = c .1 }
+    go Nowhere q ih =
+        let w = ih (rw q at e) in
+        record { here = w .here; large = omega (arith, w .large); free = w .free }

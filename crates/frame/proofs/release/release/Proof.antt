@@ -1,6 +1,5 @@
 -- `frame::release::release` meets its contract: the word at the start's place is that of the granted block, or no such block is. Assumes nothing.
-use mathlib.Core.Path.{_≡_, sym, ap, _∙_}
-use Prim.Native.Nat.{_≤_, _<_}
+use mathlib.Core.Path.{sym, ap, _∙_}
 use native.Mathlib.Omega.{arith}
 use Rattle.frame.specs.Outcome.{wanted}
 use Rattle.frame.proofs.Giving.{above-top, in-gap, inside-here, other-word, releasable, given-back}
