@@ -8,3 +8,4 @@ pub mod Spans
 pub mod Releases
 pub mod Giving
 pub mod Granting
+pub mod GrantingAt
