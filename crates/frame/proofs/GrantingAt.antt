@@ -1,6 +1,6 @@
 -- A grant at a start held to its rule: the one block that may contain the run, told by its word. Assumes nothing.
 use mathlib.Core.Path.{_≡_, refl, sym, ap, _∙_}
-use mathlib.Core.Bool.{Bool, true, false, not, _&&_, and-false}
+use mathlib.Core.Bool.{true, false, not, _&&_, and-false}
 use mathlib.Core.List.{List, [], _∷_}
 use Prim.Native.Nat.{ℕ, _+_, _-_, _%_, _^_, _≤_, _<_}
 use native.Mathlib.Omega.{arith}
@@ -12,7 +12,7 @@ use borrow.Author.Tests.{eq-eqb, ne-eqb, le-leb, lt-leb}
 use Rattle.answers.specs.declared.Answer.the-variants.{Refused}
 use Rattle.answers.specs.declared.Refusal.the-variants.{NoBlock, Misaligned}
 use Rattle.rules.specs.Rules.{class, start, end, blockAt, contains, containing, placeOf}
-use Rattle.rules.specs.declared.Found.the-variants.{At, Nowhere}
+use Rattle.rules.specs.declared.Found.the-variants.{Nowhere}
 use Rattle.rules.specs.declared.Place.the-variants.{Inside, Gap}
 use Rattle.rules.proofs.Looking.{InsideAt, inside-is, gap-is, contained, not-contained, none-contains}
 use Rattle.table.specs.Layout.{orderOf, countOf, markOf, classOf, startOf, endOf, blockOf, blocksOf}
@@ -108,7 +108,7 @@ module _ (ws : List ℕ) (sound : soundb ws ≡ true) (run c : ℕ) where
               let l : classOf (getD ws (i + 1) 0) ≡ class (blockAt i (blocksOf ws)) = sym (ap class block) in
               let a : start (blockAt i (blocksOf ws)) ≤ run = at .low in
               let k : c ≤ classOf (getD ws (i + 1) 0) =
-                  exp-le c (classOf (getD ws (i + 1) 0)) (omega (arith, size, ap start block, pow-pos (classOf (getD ws (i + 1) 0)))) in
+              exp-le c (classOf (getD ws (i + 1) 0)) (omega (arith, size, ap start block, pow-pos (classOf (getD ws (i + 1) 0)))) in
               record { sound = sound; place = here .0; large = omega arith }
 
           pub granted-at : {r : Reply} {after : List ℕ} → Says (carried (0 ∷ []) ws (halving c run i ws)) r after

@@ -3,6 +3,7 @@ pub mod Pass
 pub mod Windows
 pub mod Halves
 pub mod Pieces
+pub mod Taking
 pub mod Compared
 pub mod Spans
 pub mod Releases

@@ -1,14 +1,19 @@
 // Adding a range: its pieces counted, then written at their place.
 ghost use mathlib.Core.Path.{_≡_};
-ghost use mathlib.Core.List.{map};
-ghost use Prim.Native.Nat.{_+_, _≤_, min};
-ghost use lib.ListN.{length};
+ghost use mathlib.Core.Bool.{true};
+ghost use mathlib.Core.List.{[], _∷_, map};
+ghost use Prim.Native.Nat.{_+_, _-_, _≤_, _<_, min};
+ghost use lib.ListN.{length, getD};
 ghost use Rattle.rules.proofs.Adding.{Range, piecesOf};
-ghost use Rattle.table.specs.Layout.{wordOf};
+ghost use Rattle.table.specs.Layout.{orderOf, countOf, wordOf, blocksOf};
+ghost use Rattle.table.specs.Sound.{soundb};
 ghost use Rattle.table.proofs.Writing.{filled};
-ghost use Rattle.frame.specs.Add.{Addable, Placed};
+ghost use Rattle.frame.specs.Add.{Addable, Placed, startsBefore};
+ghost use Rattle.frame.specs.Outcome.{carried, adding};
+ghost use Rattle.frame.specs.Told.{Says, replyOf};
 use answers::Answer;
 use answers::Refusal;
+use rules::Place;
 
 // The pieces of [start, end) are put at place i of a sound table, where they belong and touch nothing, if there is room.
 pub fn add_at(t: &mut [u64], i: usize, start: u64, end: u64) -> Answer
@@ -68,4 +73,39 @@ fn write_pieces(t: &mut [u64], at: usize, start: u64, n: u64, top: u64)
         left -= size;
         p += 1;
     }
+}
+
+// Whether there is a record at place i, and it starts before `end`.
+fn starts_before(t: &[u64], i: usize, end: u64) -> bool
+    requires { ⌜ countOf (getD (now t) 0 0) < length (now t) ⌝ }
+    ensures { λ r. ⌜ r ≡ startsBefore (now (t .entry)) i end ⌝ }
+{
+    if table::count_of(t[0]) <= i {
+        return false;
+    }
+    table::start_of(t[i + 1]) < end
+}
+
+// The frames [start, end) are added to a sound table.
+pub fn add(t: &mut [u64], start: u64, end: u64) -> Answer
+    requires { ⌜ soundb (now t) ≡ true ⌝ }
+    ensures { λ r. ⌜ Says (carried (0 ∷ []) (now (t .entry)) (adding start end (orderOf (getD (now (t .entry)) 0 0)) (length (now (t .entry)) - 1) (blocksOf (now (t .entry))))) (replyOf r) (now (t .exit)) ⌝ }
+{
+    if end < start {
+        return Answer::Refused(Refusal::BadRange);
+    }
+    if 0x1_0000_0000 < end {
+        return Answer::Refused(Refusal::BadRange);
+    }
+    // an empty range is accepted anywhere, inside a block too
+    if start == end {
+        return Answer::Done(0);
+    }
+    let Place::Gap(i) = table::place(t, start) else {
+        return Answer::Refused(Refusal::Overlap);
+    };
+    if starts_before(t, i, end) {
+        return Answer::Refused(Refusal::Overlap);
+    }
+    add_at(t, i, start, end)
 }

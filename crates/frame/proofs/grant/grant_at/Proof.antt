@@ -1,6 +1,6 @@
 -- `frame::grant::grant_at` meets its contract: the one block that may contain the run is judged by its word, and halved. Assumes nothing.
-use mathlib.Core.Path.{_≡_, sym, ap, _∙_}
-use Prim.Native.Nat.{_+_, _≤_, _<_}
+use mathlib.Core.Path.{sym, _∙_}
+use Prim.Native.Nat.{_+_}
 use native.Mathlib.Omega.{arith}
 use Rattle.table.proofs.Facts.{sound-fact}
 use Rattle.frame.proofs.GrantingAt.{too-large, frames-fit, misaligned, in-gap, here, is-granted, is-short, halvable, granted-at}
