@@ -16,7 +16,7 @@ use answers::Refusal;
 use rules::Place;
 
 // The pieces of [start, end) are put at place i of a sound table, where they belong and touch nothing, if there is room.
-pub fn add_at(t: &mut [u64], i: usize, start: u64, end: u64) -> Answer
+pub(crate) fn add_at(t: &mut [u64], i: usize, start: u64, end: u64) -> Answer
     requires { ⌜ Addable (now t) i start end ⌝ }
     ensures { λ r. ⌜ Placed (now (t .entry)) start end r (now (t .exit)) ⌝ }
 {
@@ -87,7 +87,7 @@ fn starts_before(t: &[u64], i: usize, end: u64) -> bool
 }
 
 // The frames [start, end) are added to a sound table.
-pub fn add(t: &mut [u64], start: u64, end: u64) -> Answer
+pub(crate) fn add(t: &mut [u64], start: u64, end: u64) -> Answer
     requires { ⌜ soundb (now t) ≡ true ⌝ }
     ensures { λ r. ⌜ Says (carried (0 ∷ []) (now (t .entry)) (adding start end (orderOf (getD (now (t .entry)) 0 0)) (length (now (t .entry)) - 1) (blocksOf (now (t .entry))))) (replyOf r) (now (t .exit)) ⌝ }
 {

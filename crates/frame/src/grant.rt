@@ -20,7 +20,7 @@ use rules::Place;
 const GRANTED: u64 = 0x8000_0000_0000_0000;
 
 // The smallest class that has a free block that suffices, in it the lowest start.
-pub fn grant(t: &mut [u64], size: Rounded) -> Answer
+pub(crate) fn grant(t: &mut [u64], size: Rounded) -> Answer
     requires { ⌜ (soundb (now t) ≡ true) × (wanted size ≤ 33) ⌝ }
     ensures { λ r. ⌜ Says (carried (0 ∷ []) (now (t .entry)) (granting (wanted size) (orderOf (getD (now (t .entry)) 0 0)) (length (now (t .entry)) - 1) (blocksOf (now (t .entry))))) (replyOf r) (now (t .exit)) ⌝ }
 {
@@ -39,7 +39,7 @@ pub fn grant(t: &mut [u64], size: Rounded) -> Answer
 }
 
 // The run of the class at start, from the one free block that contains it.
-pub fn grant_at(t: &mut [u64], start: u64, size: Rounded) -> Answer
+pub(crate) fn grant_at(t: &mut [u64], start: u64, size: Rounded) -> Answer
     requires { ⌜ (soundb (now t) ≡ true) × (wanted size ≤ 33) ⌝ }
     ensures { λ r. ⌜ Says (carried (0 ∷ []) (now (t .entry)) (grantingAt start (wanted size) (orderOf (getD (now (t .entry)) 0 0)) (length (now (t .entry)) - 1) (blocksOf (now (t .entry))))) (replyOf r) (now (t .exit)) ⌝ }
 {

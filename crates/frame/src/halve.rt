@@ -12,7 +12,7 @@ use answers::Answer;
 use answers::Refusal;
 
 // The block at place i of a sound table is halved towards the run of `class` at `run`, if there is room.
-pub fn halve(t: &mut [u64], i: usize, class: u64, run: u64) -> Answer
+pub(crate) fn halve(t: &mut [u64], i: usize, class: u64, run: u64) -> Answer
     requires { ⌜ Halvable (now t) i class ⌝ }
     ensures { λ r. ⌜ Says (carried (0 ∷ []) (now (t .entry)) (halving class run i (now (t .entry)))) (replyOf r) (now (t .exit)) ⌝ }
 {

@@ -21,7 +21,7 @@ fn better(class: u64, low: u64, w: u64) -> bool
 }
 
 // The place of the free block of the smallest class from `class` to `order` - 1, and in it of the lowest start, in one pass.
-pub fn pick(t: &[u64], order: u64, class: u64) -> Found
+pub(crate) fn pick(t: &[u64], order: u64, class: u64) -> Found
     requires { ⌜ (countOf (getD (now t) 0 0) < length (now t)) × (order ≤ 64) ⌝ }
     ensures { λ r. ⌜ r ≡ smallest (order - class) class 0 (blocksOf (now (t .entry))) ⌝ }
 {

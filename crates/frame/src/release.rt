@@ -88,7 +88,7 @@ fn join(t: &[u64], i: usize) -> Span
 }
 
 // The granted block at place i of a sound table becomes free, joined as far as its buddies are free: one splice.
-pub fn release_at(t: &mut [u64], i: usize) -> Answer
+pub(crate) fn release_at(t: &mut [u64], i: usize) -> Answer
     requires { ⌜ Releasable (now t) i ⌝ }
     ensures { λ r. ⌜ Says (carried (0 ∷ []) (now (t .entry)) (releasedAt (now (t .entry)) i)) (replyOf r) (now (t .exit)) ⌝ }
 {
@@ -104,7 +104,7 @@ pub fn release_at(t: &mut [u64], i: usize) -> Answer
 }
 
 // Releases the block at start of the class that a count was rounded to, if such a block is granted, in a sound table.
-pub fn release(t: &mut [u64], start: u64, size: Rounded) -> Answer
+pub(crate) fn release(t: &mut [u64], start: u64, size: Rounded) -> Answer
     requires { ⌜ (soundb (now t) ≡ true) × (wanted size ≤ 33) ⌝ }
     ensures { λ r. ⌜ Says (carried (0 ∷ []) (now (t .entry)) (releasing start (wanted size) (orderOf (getD (now (t .entry)) 0 0)) (blocksOf (now (t .entry))))) (replyOf r) (now (t .exit)) ⌝ }
 {
