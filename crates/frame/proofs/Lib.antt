@@ -1,4 +1,5 @@
 pub mod Chains
+pub mod Shells
 pub mod Pass
 pub mod Windows
 pub mod Halves

@@ -1,6 +1,59 @@
-// The public calls on a frame table.
+// The public calls on a frame table, named as in the Rust: each tests the table first and refuses with 3, then does the work of the
+// crate's own parts. None asks anything of its caller; specs/Outcome.antt says what each answers and leaves.
 mod add;
 mod grant;
 mod halve;
 mod pick;
 mod release;
+
+ghost use Rattle.frame.specs.Outcome.{Add, Alloc, AllocAligned, AllocAt, Dealloc, DeallocAligned};
+ghost use Rattle.frame.specs.Told.{Told};
+use answers::Answer;
+use answers::Refusal;
+
+// Adds the frames [start, end).
+pub fn add_frame(t: &mut [u64], start: u64, end: u64) -> Answer
+    ensures { λ r. ⌜ Told (Add start end) (now (t .entry)) r (now (t .exit)) ⌝ }
+{
+    if !table::sound(t) {
+        return Answer::Refused(Refusal::BadState);
+    }
+    add::add(t, start, end)
+}
+
+// The same, under the name that the Rust has for a range.
+pub fn insert(t: &mut [u64], start: u64, end: u64) -> Answer
+    ensures { λ r. ⌜ Told (Add start end) (now (t .entry)) r (now (t .exit)) ⌝ }
+{
+    add_frame(t, start, end)
+}
+
+// Grants count frames, rounded up to a block.
+pub fn alloc(t: &mut [u64], count: u64) -> Answer
+    ensures { λ r. ⌜ Told (Alloc count) (now (t .entry)) r (now (t .exit)) ⌝ }
+{
+    if !table::sound(t) {
+        return Answer::Refused(Refusal::BadState);
+    }
+    grant::grant(t, blocks::round(count))
+}
+
+// Grants the run of count frames, rounded up, that starts at start.
+pub fn alloc_at(t: &mut [u64], start: u64, count: u64) -> Answer
+    ensures { λ r. ⌜ Told (AllocAt start count) (now (t .entry)) r (now (t .exit)) ⌝ }
+{
+    if !table::sound(t) {
+        return Answer::Refused(Refusal::BadState);
+    }
+    grant::grant_at(t, start, blocks::round(count))
+}
+
+// Releases the block of count frames, rounded up, that starts at start.
+pub fn dealloc(t: &mut [u64], start: u64, count: u64) -> Answer
+    ensures { λ r. ⌜ Told (Dealloc start count) (now (t .entry)) r (now (t .exit)) ⌝ }
+{
+    if !table::sound(t) {
+        return Answer::Refused(Refusal::BadState);
+    }
+    release::release(t, start, blocks::round(count))
+}
