@@ -3,18 +3,18 @@ use mathlib.Core.Path.{_≡_, refl, sym, ap, _∙_}
 use mathlib.Core.Bool.{Bool, true, false}
 use mathlib.Core.List.{List, [], _∷_}
 use mathlib.Core.Logic.{_⊎_, inl, inr}
-use Prim.Native.Nat.{ℕ, _-_, _^_, _≤_, _<_}
+use Prim.Native.Nat.{ℕ, _-_, _^_, _≤_, _<_, max}
 use native.Mathlib.Omega.{arith}
 use lib.ListN.{length, getD}
 use Rattle.answers.specs.declared.Answer.the-variants.{Refused}
-use Rattle.answers.specs.declared.Refusal.the-variants.{BadState}
-use Rattle.blocks.specs.Blocks.{rounded}
+use Rattle.answers.specs.declared.Refusal.the-variants.{BadState, BadAlign}
+use Rattle.blocks.specs.Blocks.{rounded, roundedAligned, isPowerOfTwo}
 use Rattle.blocks.specs.Laws.{Least}
 use Rattle.blocks.specs.declared.Rounded.{Rounded}
-use Rattle.blocks.proofs.Rounding.{rounding, class-is, above-is}
+use Rattle.blocks.proofs.Rounding.{rounding, class-is, above-is, aligned-is}
 use Rattle.table.specs.Layout.{orderOf, blocksOf}
 use Rattle.table.specs.Sound.{soundb}
-use Rattle.frame.specs.Outcome.{Call, Add, Alloc, AllocAt, Dealloc, Reply, Decision, zeros, carried, decide, adding, granting, grantingAt, releasing, wanted, outcome}
+use Rattle.frame.specs.Outcome.{Call, Add, Alloc, AllocAligned, AllocAt, Dealloc, DeallocAligned, Reply, Decision, zeros, carried, decide, adding, granting, grantingAt, releasing, wanted, outcome}
 use Rattle.frame.specs.Told.{Says, replyOf}
 
 -- a class that a count is rounded to is one of the table's, or stands for Above
@@ -25,6 +25,9 @@ small n = go (rounding n)
     go (inl (k, l)) = rw (class-is n k l) (omega (arith, l .small))
     go (inr h) = rw (above-is n h) (omega arith)
 
+pub small-aligned : (n a : ℕ) → wanted (roundedAligned n a) ≤ 33
+small-aligned n a = rw (aligned-is n a) (small (max n a))
+
 module _ (ws : List ℕ) where
   abbrev decided : Decision → Reply → List ℕ → Type 0
   decided d r after = Says (carried (0 ∷ []) ws d) r after
@@ -33,6 +36,16 @@ module _ (ws : List ℕ) where
   pub unsound : (call : Call) → zeros call ≡ 0 ∷ [] → soundb ws ≡ false → Says (outcome call ws) (replyOf (Refused BadState)) ws
   unfolding outcome
   unsound call z e = rw (e, outcome, z) (record { reply = refl; words = refl })
+
+  module _ (sound : soundb ws ≡ true) where
+    -- an alignment that is no power of two
+    pub bad-align : (n a : ℕ) → isPowerOfTwo a ≡ false → Says (outcome (AllocAligned n a) ws) (replyOf (Refused BadAlign)) ws
+    unfolding outcome decide
+    bad-align n a p = rw (sound, outcome, p) (record { reply = refl; words = refl })
+
+    pub bad-align-release : (s n a : ℕ) → isPowerOfTwo a ≡ false → Says (outcome (DeallocAligned s n a) ws) (replyOf (Refused BadAlign)) ws
+    unfolding outcome decide
+    bad-align-release s n a p = rw (sound, outcome, p) (record { reply = refl; words = refl })
 
   module _ (sound : soundb ws ≡ true) {r : Reply} {after : List ℕ} where
     pub added : (s e : ℕ) → decided (adding s e (orderOf (getD ws 0 0)) (length ws - 1) (blocksOf ws)) r after → Says (outcome (Add s e) ws) r after
@@ -51,3 +64,14 @@ module _ (ws : List ℕ) where
     pub released : (s n : ℕ) → decided (releasing s (wanted (rounded n)) (orderOf (getD ws 0 0)) (blocksOf ws)) r after → Says (outcome (Dealloc s n) ws) r after
     unfolding outcome decide
     released s n w = rw (sound, outcome) w
+
+    -- an alignment that is a power of two
+    pub granted-aligned : (n a : ℕ) → isPowerOfTwo a ≡ true → decided (granting (wanted (roundedAligned n a)) (orderOf (getD ws 0 0)) (length ws - 1) (blocksOf ws)) r after
+        → Says (outcome (AllocAligned n a) ws) r after
+    unfolding outcome decide
+    granted-aligned n a p w = rw (sound, outcome, p) w
+
+    pub released-aligned : (s n a : ℕ) → isPowerOfTwo a ≡ true → decided (releasing s (wanted (roundedAligned n a)) (orderOf (getD ws 0 0)) (blocksOf ws)) r after
+        → Says (outcome (DeallocAligned s n a) ws) r after
+    unfolding outcome decide
+    released-aligned s n a p w = rw (sound, outcome, p) w

@@ -57,3 +57,29 @@ pub fn dealloc(t: &mut [u64], start: u64, count: u64) -> Answer
     }
     release::release(t, start, blocks::round(count))
 }
+
+// Grants the larger of size, rounded up, and align, which must be a power of two.
+pub fn alloc_aligned(t: &mut [u64], size: u64, align: u64) -> Answer
+    ensures { λ r. ⌜ Told (AllocAligned size align) (now (t .entry)) r (now (t .exit)) ⌝ }
+{
+    if !table::sound(t) {
+        return Answer::Refused(Refusal::BadState);
+    }
+    if !blocks::is_power_of_two(align) {
+        return Answer::Refused(Refusal::BadAlign);
+    }
+    grant::grant(t, blocks::round_aligned(size, align))
+}
+
+// Releases the block at start that alloc_aligned grants for this size and align.
+pub fn dealloc_aligned(t: &mut [u64], start: u64, size: u64, align: u64) -> Answer
+    ensures { λ r. ⌜ Told (DeallocAligned start size align) (now (t .entry)) r (now (t .exit)) ⌝ }
+{
+    if !table::sound(t) {
+        return Answer::Refused(Refusal::BadState);
+    }
+    if !blocks::is_power_of_two(align) {
+        return Answer::Refused(Refusal::BadAlign);
+    }
+    release::release(t, start, blocks::round_aligned(size, align))
+}

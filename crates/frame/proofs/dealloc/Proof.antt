@@ -23,8 +23,7 @@ round-requires c κs = search needs
 
 release-requires : tie.Need-release-requires
 release-requires c κs =
-    let a = c .before .before .before .before .before .before .args in
-    (sym (c .before .before .before .sound .ensures) ∙ not-false _ (c .before .before .if1 .left), rw (c .round .ensures) (small (a .count)))
+    (sym (c .before .before .before .sound .ensures) ∙ not-false _ (c .before .before .if1 .left), rw (c .round .ensures) (small _))
 
 same-length-2 : tie.Need-same-length-2
 same-length-2 c = search needs
