@@ -4,8 +4,9 @@ use mathlib.Core.List.{List, [], _∷_}
 use Prim.Native.Nat.{ℕ}
 use Rattle.answers.specs.declared.Answer.{Answer}
 use Rattle.answers.proofs.Apart.{tells-apart}
-use Rattle.frame.specs.Outcome.{Call, Reply}
-use Rattle.frame.specs.Told.{Told, replyOf, replies, last, Chain, done, call}
+use Rattle.frame.specs.Outcome.{Call}
+use Rattle.frame_core.specs.Carried.{Reply, replyOf}
+use Rattle.frame.specs.Told.{Told, replies, last, Chain, done, call}
 
 pub chain-is : {cs : List Call} {before after : List ℕ} {rs : List Reply} → Chain cs before rs after → (rs ≡ replies cs before) × (after ≡ last cs before)
 chain-is done = (refl, refl)

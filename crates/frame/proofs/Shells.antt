@@ -14,8 +14,9 @@ use Rattle.blocks.specs.declared.Rounded.{Rounded}
 use Rattle.blocks.proofs.Rounding.{rounding, class-is, above-is, aligned-is}
 use Rattle.table.specs.Layout.{orderOf, blocksOf}
 use Rattle.table.specs.Sound.{soundb}
-use Rattle.frame.specs.Outcome.{Call, Add, Alloc, AllocAligned, AllocAt, Dealloc, DeallocAligned, Reply, Decision, zeros, carried, decide, adding, granting, grantingAt, releasing, wanted, outcome}
-use Rattle.frame.specs.Told.{Says, replyOf}
+use Rattle.frame.specs.Outcome.{Call, Add, Alloc, AllocAligned, AllocAt, Dealloc, DeallocAligned, zeros, decide, outcome}
+use Rattle.frame_core.specs.Deciding.{Decision, adding, granting, grantingAt, releasing, wanted}
+use Rattle.frame_core.specs.Carried.{Reply, carried, Says, replyOf}
 
 -- a class that a count is rounded to is one of the table's, or stands for Above
 pub small : (n : ℕ) → wanted (rounded n) ≤ 33

@@ -3,16 +3,8 @@ use mathlib.Core.Path.{_≡_}
 use mathlib.Core.List.{List, [], _∷_}
 use Prim.Native.Nat.{ℕ}
 use Rattle.answers.specs.declared.Answer.{Answer}
-use Rattle.answers.specs.Paper.{paper}
-use Rattle.frame.specs.Outcome.{Call, Reply, Outcome, outcome}
-
-abbrev pub replyOf : Answer → Reply
-replyOf a = record { number = paper a .number; values = paper a .value ∷ [] }
-
--- a reply and the words after are those of an outcome
-pub record Says (o : Outcome) (r : Reply) (after : List ℕ) : Type 0 where
-  pub reply : r ≡ o .reply
-  pub words : after ≡ o .words
+use Rattle.frame.specs.Outcome.{Call, outcome}
+use Rattle.frame_core.specs.Carried.{Reply, replyOf, Says}
 
 -- the promise of a call: from the words before to the words after, with the answer a
 abbrev pub Told : Call → List ℕ → Answer → List ℕ → Type 0

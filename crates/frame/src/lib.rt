@@ -1,10 +1,5 @@
-// The public calls on a frame table, named as in the Rust: each tests the table first and refuses with 3, then does the work of the
-// crate's own parts. None asks anything of its caller; specs/Outcome.antt says what each answers and leaves.
-mod add;
-mod grant;
-mod halve;
-mod pick;
-mod release;
+// The public calls on a frame table, named as in the Rust: each tests the table first and refuses with 3, then does the work by the
+// parts in `frame_core`. None asks anything of its caller; specs/Outcome.antt says what each answers and leaves.
 
 ghost use Rattle.frame.specs.Outcome.{Add, Alloc, AllocAligned, AllocAt, Dealloc, DeallocAligned};
 ghost use Rattle.frame.specs.Told.{Told};
@@ -18,7 +13,7 @@ pub fn add_frame(t: &mut [u64], start: u64, end: u64) -> Answer
     if !table::sound(t) {
         return Answer::Refused(Refusal::BadState);
     }
-    add::add(t, start, end)
+    frame_core::add_range(t, start, end)
 }
 
 // The same, under the name that the Rust has for a range.
@@ -35,7 +30,7 @@ pub fn alloc(t: &mut [u64], count: u64) -> Answer
     if !table::sound(t) {
         return Answer::Refused(Refusal::BadState);
     }
-    grant::grant(t, blocks::round(count))
+    frame_core::grant_block(t, blocks::round(count))
 }
 
 // Grants the run of count frames, rounded up, that starts at start.
@@ -45,7 +40,7 @@ pub fn alloc_at(t: &mut [u64], start: u64, count: u64) -> Answer
     if !table::sound(t) {
         return Answer::Refused(Refusal::BadState);
     }
-    grant::grant_at(t, start, blocks::round(count))
+    frame_core::grant_run(t, start, blocks::round(count))
 }
 
 // Releases the block of count frames, rounded up, that starts at start.
@@ -55,7 +50,7 @@ pub fn dealloc(t: &mut [u64], start: u64, count: u64) -> Answer
     if !table::sound(t) {
         return Answer::Refused(Refusal::BadState);
     }
-    release::release(t, start, blocks::round(count))
+    frame_core::release_block(t, start, blocks::round(count))
 }
 
 // Grants the larger of size, rounded up, and align, which must be a power of two.
@@ -68,7 +63,7 @@ pub fn alloc_aligned(t: &mut [u64], size: u64, align: u64) -> Answer
     if !blocks::is_power_of_two(align) {
         return Answer::Refused(Refusal::BadAlign);
     }
-    grant::grant(t, blocks::round_aligned(size, align))
+    frame_core::grant_block(t, blocks::round_aligned(size, align))
 }
 
 // Releases the block at start that alloc_aligned grants for this size and align.
@@ -81,5 +76,5 @@ pub fn dealloc_aligned(t: &mut [u64], start: u64, size: u64, align: u64) -> Answ
     if !blocks::is_power_of_two(align) {
         return Answer::Refused(Refusal::BadAlign);
     }
-    release::release(t, start, blocks::round_aligned(size, align))
+    frame_core::release_block(t, start, blocks::round_aligned(size, align))
 }

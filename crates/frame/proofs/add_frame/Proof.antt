@@ -18,8 +18,8 @@ returns c =
     let a = c .before .before .before .before .args in
     unsound (a .t .now) (Add (a .start) (a .end)) refl (sym (c .before .sound .ensures) ∙ not-true _ (c .if1 .taken))
 
-add-requires : tie.Need-add-requires
-add-requires c κs =
+add-range-requires : tie.Need-add-range-requires
+add-range-requires c κs =
     sym (c .before .before .sound .ensures) ∙ not-false _ (c .before .if1 .left)
 
 same-length-2 : tie.Need-same-length-2
@@ -28,8 +28,8 @@ same-length-2 c = search needs
 returns-2 : tie.Need-returns-2
 returns-2 c =
     let a = c .before .before .before .before .before .before .before .before .args in
-    added (a .t .now) (sym (c .before .before .before .before .before .sound .ensures) ∙ not-false _ (c .before .before .before .before .if1 .left)) (a .start) (a .end) (c .before .before .add .ensures)
+    added (a .t .now) (sym (c .before .before .before .before .before .sound .ensures) ∙ not-false _ (c .before .before .before .before .if1 .left)) (a .start) (a .end) (c .before .before .add-range .ensures)
 
 pub add-frame-spec : {M : Type 1} → statement M
 add-frame-spec =
-    tie.close (tie.spec sound-requires same-length returns add-requires same-length-2 returns-2)
+    tie.close (tie.spec sound-requires same-length returns add-range-requires same-length-2 returns-2)

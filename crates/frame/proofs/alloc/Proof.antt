@@ -21,8 +21,8 @@ returns c =
 round-requires : tie.Need-round-requires
 round-requires c κs = search needs
 
-grant-requires : tie.Need-grant-requires
-grant-requires c κs =
+grant-block-requires : tie.Need-grant-block-requires
+grant-block-requires c κs =
     (sym (c .before .before .before .sound .ensures) ∙ not-false _ (c .before .before .if1 .left), rw (c .round .ensures) (small _))
 
 same-length-2 : tie.Need-same-length-2
@@ -31,7 +31,7 @@ same-length-2 c = search needs
 returns-2 : tie.Need-returns-2
 returns-2 c =
     let a = c .before .before .before .before .before .before .before .before .before .args in
-    granted (a .t .now) (sym (c .before .before .before .before .before .before .sound .ensures) ∙ not-false _ (c .before .before .before .before .before .if1 .left)) (a .count) (rw (c .before .before .before .round .ensures) at (c .before .before .grant .ensures))
+    granted (a .t .now) (sym (c .before .before .before .before .before .before .sound .ensures) ∙ not-false _ (c .before .before .before .before .before .if1 .left)) (a .count) (rw (c .before .before .before .round .ensures) at (c .before .before .grant-block .ensures))
 
 pub alloc-spec : {M : Type 1} → statement M
 alloc-spec =
@@ -41,6 +41,6 @@ alloc-spec =
     same-length
     returns
     round-requires
-    grant-requires
+    grant-block-requires
     same-length-2
     returns-2)

@@ -21,8 +21,8 @@ returns c =
 round-requires : tie.Need-round-requires
 round-requires c κs = search needs
 
-grant-at-requires : tie.Need-grant-at-requires
-grant-at-requires c κs =
+grant-run-requires : tie.Need-grant-run-requires
+grant-run-requires c κs =
     (sym (c .before .before .before .sound .ensures) ∙ not-false _ (c .before .before .if1 .left), rw (c .round .ensures) (small _))
 
 same-length-2 : tie.Need-same-length-2
@@ -31,7 +31,7 @@ same-length-2 c = search needs
 returns-2 : tie.Need-returns-2
 returns-2 c =
     let a = c .before .before .before .before .before .before .before .before .before .args in
-    granted-at (a .t .now) (sym (c .before .before .before .before .before .before .sound .ensures) ∙ not-false _ (c .before .before .before .before .before .if1 .left)) (a .start) (a .count) (rw (c .before .before .before .round .ensures) at (c .before .before .grant-at .ensures))
+    granted-at (a .t .now) (sym (c .before .before .before .before .before .before .sound .ensures) ∙ not-false _ (c .before .before .before .before .before .if1 .left)) (a .start) (a .count) (rw (c .before .before .before .round .ensures) at (c .before .before .grant-run .ensures))
 
 pub alloc-at-spec : {M : Type 1} → statement M
 alloc-at-spec =
@@ -41,6 +41,6 @@ alloc-at-spec =
     same-length
     returns
     round-requires
-    grant-at-requires
+    grant-run-requires
     same-length-2
     returns-2)

@@ -21,8 +21,8 @@ returns c =
 round-requires : tie.Need-round-requires
 round-requires c κs = search needs
 
-release-requires : tie.Need-release-requires
-release-requires c κs =
+release-block-requires : tie.Need-release-block-requires
+release-block-requires c κs =
     (sym (c .before .before .before .sound .ensures) ∙ not-false _ (c .before .before .if1 .left), rw (c .round .ensures) (small _))
 
 same-length-2 : tie.Need-same-length-2
@@ -31,7 +31,7 @@ same-length-2 c = search needs
 returns-2 : tie.Need-returns-2
 returns-2 c =
     let a = c .before .before .before .before .before .before .before .before .before .args in
-    released (a .t .now) (sym (c .before .before .before .before .before .before .sound .ensures) ∙ not-false _ (c .before .before .before .before .before .if1 .left)) (a .start) (a .count) (rw (c .before .before .before .round .ensures) at (c .before .before .release .ensures))
+    released (a .t .now) (sym (c .before .before .before .before .before .before .sound .ensures) ∙ not-false _ (c .before .before .before .before .before .if1 .left)) (a .start) (a .count) (rw (c .before .before .before .round .ensures) at (c .before .before .release-block .ensures))
 
 pub dealloc-spec : {M : Type 1} → statement M
 dealloc-spec =
@@ -41,6 +41,6 @@ dealloc-spec =
     same-length
     returns
     round-requires
-    release-requires
+    release-block-requires
     same-length-2
     returns-2)

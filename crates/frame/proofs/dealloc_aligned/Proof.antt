@@ -32,8 +32,8 @@ returns-2 c =
 round-aligned-requires : tie.Need-round-aligned-requires
 round-aligned-requires c κs = search needs
 
-release-requires : tie.Need-release-requires
-release-requires c κs =
+release-block-requires : tie.Need-release-block-requires
+release-block-requires c κs =
     (sym (c .before .before .before .before .before .sound .ensures) ∙ not-false _ (c .before .before .before .before .if1 .left), rw (c .round-aligned .ensures) (small-aligned _ _))
 
 same-length-3 : tie.Need-same-length-3
@@ -42,7 +42,7 @@ same-length-3 c = search needs
 returns-3 : tie.Need-returns-3
 returns-3 c =
     let a = c .before .before .before .before .before .before .before .before .before .before .before .args in
-    released-aligned (a .t .now) (sym (c .before .before .before .before .before .before .before .before .sound .ensures) ∙ not-false _ (c .before .before .before .before .before .before .before .if1 .left)) (a .start) (a .size) (a .align) (sym (c .before .before .before .before .before .before .is-power-of-two .ensures) ∙ not-false _ (c .before .before .before .before .before .if2 .left)) (rw (c .before .before .before .round-aligned .ensures) at (c .before .before .release .ensures))
+    released-aligned (a .t .now) (sym (c .before .before .before .before .before .before .before .before .sound .ensures) ∙ not-false _ (c .before .before .before .before .before .before .before .if1 .left)) (a .start) (a .size) (a .align) (sym (c .before .before .before .before .before .before .is-power-of-two .ensures) ∙ not-false _ (c .before .before .before .before .before .if2 .left)) (rw (c .before .before .before .round-aligned .ensures) at (c .before .before .release-block .ensures))
 
 pub dealloc-aligned-spec : {M : Type 1} → statement M
 dealloc-aligned-spec =
@@ -55,6 +55,6 @@ dealloc-aligned-spec =
     same-length-2
     returns-2
     round-aligned-requires
-    release-requires
+    release-block-requires
     same-length-3
     returns-3)

@@ -1,0 +1,6 @@
+pub mod Deciding
+pub mod Carried
+pub mod Pick
+pub mod Halve
+pub mod Add
+pub mod Release
