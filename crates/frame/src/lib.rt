@@ -2,9 +2,37 @@
 // parts in `frame_core`. None asks anything of its caller; specs/Outcome.antt says what each answers and leaves.
 
 ghost use Rattle.frame.specs.Outcome.{Add, Alloc, AllocAligned, AllocAt, Dealloc, DeallocAligned};
-ghost use Rattle.frame.specs.Told.{Told};
+ghost use Rattle.frame.specs.Told.{Made, Told, Summed};
 use answers::Answer;
 use answers::Refusal;
+use frame_core::Figures;
+
+// What a summary answers.
+pub enum Report {
+    Of(Figures),
+    Refused(Refusal),
+}
+
+// Makes an empty table of the ORDER over the lent words, whatever they hold.
+pub fn new(t: &mut [u64], order: u64) -> Answer
+    ensures { λ r. ⌜ Made order (now (t .entry)) r (now (t .exit)) ⌝ }
+{
+    if order < 1 {
+        return Answer::Refused(Refusal::BadOrder);
+    }
+    if 33 < order {
+        return Answer::Refused(Refusal::BadOrder);
+    }
+    if t.len() < 1 {
+        return Answer::Refused(Refusal::BadSize);
+    }
+    if 65536 < t.len() {
+        return Answer::Refused(Refusal::BadSize);
+    }
+    table::clear(t);
+    t[0] = table::head_word(order, 0);
+    Answer::Done(0)
+}
 
 // Adds the frames [start, end).
 pub fn add_frame(t: &mut [u64], start: u64, end: u64) -> Answer
@@ -77,4 +105,14 @@ pub fn dealloc_aligned(t: &mut [u64], start: u64, size: u64, align: u64) -> Answ
         return Answer::Refused(Refusal::BadAlign);
     }
     frame_core::release_block(t, start, blocks::round_aligned(size, align))
+}
+
+// Frames granted, frames managed, and the size of the largest free block.
+pub fn summary(t: &[u64]) -> Report
+    ensures { λ r. ⌜ Summed (now (t .entry)) r ⌝ }
+{
+    if !table::sound(t) {
+        return Report::Refused(Refusal::BadState);
+    }
+    Report::Of(frame_core::count_frames(t))
 }

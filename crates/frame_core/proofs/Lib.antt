@@ -1,3 +1,4 @@
+pub mod Records
 pub mod Pass
 pub mod Windows
 pub mod Halves
@@ -9,3 +10,4 @@ pub mod Releases
 pub mod Giving
 pub mod Granting
 pub mod GrantingAt
+pub mod Tallies

@@ -7,32 +7,19 @@ use native.Mathlib.Numerals.{add-one}
 use native.Mathlib.Omega.{arith}
 use lib.Dec.{eqb, leb, ltb}
 use lib.ListN.{length, getD}
-use lib.Seq.{slice, slice-cons, slice-empty}
 use borrow.Author.Tests.{lt-ltb, le-ltb, eqb-false, ne-eqb, leb-true, leb-false, ltb-true, ltb-false}
 use Rattle.rules.specs.Rules.{Block, blk, smallest, orElse, freeIn}
 use Rattle.rules.specs.declared.Found.{Found}
 use Rattle.rules.specs.declared.Found.the-variants.{At, Nowhere}
 use Rattle.rules.proofs.Serving.{better, not-better, other-class, orElse-assoc, none-left}
 use Rattle.table.specs.Layout.{countOf, markOf, classOf, startOf, blockOf, blocksOf}
+use Rattle.table.proofs.Tests.{both}
 use Rattle.frame_core.specs.Pick.{keyOf, betterb}
+use Rattle.frame_core.proofs.Records.{from, from-step, from-none}
 
 -- the best so far: the record at place `at`, of class low, or none while low is still order
 abbrev pub held : ℕ → ℕ → ℕ → Found
 held order low at = elim (ltb low order) [ true ↦ At at | false ↦ Nowhere ]
-
--- the blocks of the records from place i on
-abbrev pub from : List ℕ → ℕ → ℕ → List Block
-from t i count = map blockOf (slice (i + 1) (count + 1) t)
-
-pub from-step : (t : List ℕ) (i count : ℕ) → i < count → count < length t → from t i count ≡ blockOf (getD t (i + 1) 0) ∷ from t (i + 1) count
-from-step t i count h l =
-    let g : i + 1 < count + 1 = omega arith in
-    let k : count + 1 ≤ length t = omega arith in
-    ap (map blockOf) (slice-cons (i + 1) (count + 1) t 0 g k ∙ ap (λ (n : ℕ). getD t (i + 1) 0 ∷ slice n (count + 1) t) (sym (add-one (i + 1))))
-
-both : (a b : Bool) → (a && b) ≡ true → (a ≡ true) × (b ≡ true)
-both true b e = (refl, e)
-both false b e = absurd (true≢false (sym e))
 
 pub lower : (class low w : ℕ) → low ≤ 64 → betterb class low w ≡ true → classOf w < low
 unfolding betterb
@@ -103,7 +90,7 @@ module _ (t : List ℕ) (order class low at i count : ℕ) (h : i < count) (l : 
 
 pub ends : (t : List ℕ) (order class low at i count : ℕ) → i ≡ count → orElse (smallest (low - class) class i (from t i count)) (held order low at) ≡ held order low at
 ends t order class low at i count e =
-    ap (λ (r : List Block). orElse (smallest (low - class) class i r) (held order low at)) (rw (e, slice-empty (count + 1) t) refl)
+    ap (λ (r : List Block). orElse (smallest (low - class) class i r) (held order low at)) (from-none t i count e)
     ∙ ap (λ (f : Found). orElse f (held order low at)) (none-left (low - class) class i)
 
 pub in-hand : (order low at : ℕ) → low < order → held order low at ≡ At at

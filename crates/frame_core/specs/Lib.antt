@@ -4,3 +4,4 @@ pub mod Pick
 pub mod Halve
 pub mod Add
 pub mod Release
+pub mod Tally

@@ -5,8 +5,11 @@ mod grant;
 mod halve;
 mod pick;
 mod release;
+mod tally;
 
 pub use add::add_range;
 pub use grant::grant_block;
 pub use grant::grant_run;
 pub use release::release_block;
+pub use tally::Figures;
+pub use tally::count_frames;

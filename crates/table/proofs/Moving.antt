@@ -2,10 +2,10 @@
 use mathlib.Core.Path.{_≡_, refl, sym, ap, _∙_}
 use mathlib.Core.List.{List, [], _∷_, _++_, append-assoc, append-nil}
 use Prim.Native.Nat.{ℕ, zero, suc, _+_, _-_, _≤_, _<_}
-use native.Mathlib.Nat.{le-of-suc-le-suc, not-suc-le-zero, sub-le}
+use native.Mathlib.Nat.{le-of-suc-le-suc, not-suc-le-zero, sub-le, sub-zero}
 use native.Mathlib.Numerals.{add-one}
 use native.Mathlib.Omega.{arith}
-use lib.ListN.{length, take, drop, getD, set, replicate, length-append, take-append-drop, replicate-append-replicate, List·getD-append}
+use lib.ListN.{length, take, drop, getD, set, replicate, length-append, take-append-drop, replicate-append-replicate, List·getD-append, drop-of-length-le}
 use lib.Seq.{slice, slice-cons, slice-empty, length-slice, length-take-le, take-suc, drop-cons, drop-drop, drop-append-le, drop-append-add, take-at, getD-take, getD-drop, getD-append-add, set-at}
 use Rattle.table.specs.Layout.{pad}
 use Rattle.table.proofs.Pad.{pad-append, pad-zeros, drop-zeros}
@@ -52,6 +52,10 @@ pub zero-turn : (d t : List ℕ) (j k end : ℕ) → k ≡ suc j → k ≤ end �
 zero-turn d t j k end e h l q =
     let s : end - j ≡ suc (end - k) = omega arith in
     rw (q, s, e) (set-last j d _ 0 (omega arith))
+
+-- all words
+pub cleared : (d : List ℕ) → zeroed d 0 (length d) ≡ replicate (length d) 0
+cleared d = rw (sub-zero, drop-of-length-le d {i = length d} (omega arith)) (append-nil (replicate (length d) 0))
 
 -- ---- going up: `done` is what is written, as long as n
 

@@ -14,4 +14,5 @@ pub use lookup::place;
 pub use pack::head_word;
 pub use pack::record_word;
 pub use scan::sound;
+pub use splice::clear;
 pub use splice::move_tail;

@@ -1,4 +1,4 @@
-// Moves the tail of a table in place, to open or close a gap before it.
+// Words of a table written by the run: its tail moved in place, to open or close a gap before it, and zeros.
 ghost use mathlib.Core.Path.{_≡_};
 ghost use mathlib.Core.List.{_++_};
 ghost use Prim.Native.Nat.{_+_, _-_, _≤_};
@@ -41,6 +41,14 @@ fn move_down(t: &mut [u64], from: usize, end: usize, by: usize)
         t[k - by] = t[k];
         k += 1;
     }
+}
+
+// Writes zero to every word.
+pub fn clear(t: &mut [u64])
+    ensures { λ _. ⌜ now (t .exit) ≡ replicate (length (now (t .entry))) 0 ⌝ }
+{
+    let end = t.len();
+    zero(t, 0, end);
 }
 
 // Writes zero to the words [from, end).

@@ -5,7 +5,8 @@ use native.Mathlib.Omega.{arith}
 use lib.ListN.{length, getD}
 use Rattle.rules.specs.Rules.{smallest, orElse}
 use Rattle.table.specs.Layout.{blocksOf}
-use Rattle.frame_core.proofs.Pass.{held, from, begins, takes, passes, ends, in-hand, empty-handed, lower}
+use Rattle.frame_core.proofs.Pass.{held, begins, takes, passes, ends, in-hand, empty-handed, lower}
+use Rattle.frame_core.proofs.Records.{from}
 use borrow.Author.Needs.{needs}
 use Rattle.frame_core.proofs.pick.pick.Statement.{statement}
 use Rattle.frame_core.proofs.pick.pick.Tie as tie
