@@ -34,8 +34,8 @@ pub fn grant_block(t: &mut [u64], size: Rounded) -> Answer
     let Found::At(i) = pick(t, order, class) else {
         return Answer::Refused(Refusal::NoBlock);
     };
-    let start = table::start_of(t[i + 1]);
-    halve(t, i, class, start)
+    let lowest = table::start_of(t[i + 1]);
+    halve(t, i, class, lowest)
 }
 
 // The run of the class at start, from the one free block that contains it.
