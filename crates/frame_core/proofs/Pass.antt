@@ -2,7 +2,7 @@
 use mathlib.Core.Path.{_≡_, refl, sym, ap, _∙_}
 use mathlib.Core.Bool.{Bool, true, false, _&&_, true≢false}
 use mathlib.Core.List.{List, _∷_, map}
-use Prim.Native.Nat.{ℕ, _+_, _-_, _^_, _≤_, _<_}
+use Prim.Native.Nat.{ℕ, _+_, _-_, _%_, _^_, _≤_, _<_}
 use native.Mathlib.Numerals.{add-one}
 use native.Mathlib.Omega.{arith}
 use lib.Dec.{eqb, leb, ltb}
@@ -21,9 +21,28 @@ use Rattle.frame_core.proofs.Records.{from, from-step, from-none}
 abbrev pub held : ℕ → ℕ → ℕ → Found
 held order low at = elim (ltb low order) [ true ↦ At at | false ↦ Nowhere ]
 
+-- the two tests by one: a key that is too small wraps far above every class
+pub one-test : (class low w d : ℕ) → class ≤ low → low ≤ 64 → w < 2 ^ 64 → d < 2 ^ 64 → (d + class) % 2 ^ 64 ≡ keyOf w → ltb d (low - class) ≡ betterb class low w
+unfolding betterb
+one-test class low w d h l fits small e = go (leb class (keyOf w)) refl
+  where
+    go : (b : Bool) → leb class (keyOf w) ≡ b → ltb d (low - class) ≡ (leb class (keyOf w) && ltb (keyOf w) low)
+    go true q = rw q (shifted (leb-true class (keyOf w) q) (ltb (keyOf w) low) refl)
+      where
+        shifted : class ≤ keyOf w → (b : Bool) → ltb (keyOf w) low ≡ b → ltb d (low - class) ≡ ltb (keyOf w) low
+        shifted a true r = lt-ltb d (low - class) (omega (arith, ltb-true (keyOf w) low r)) ∙ sym r
+        shifted a false r = le-ltb d (low - class) (omega (arith, ltb-false (keyOf w) low r)) ∙ sym r
+    go false q = rw q (le-ltb d (low - class) (omega (arith, leb-false class (keyOf w) q)))
+
 pub lower : (class low w : ℕ) → low ≤ 64 → betterb class low w ≡ true → classOf w < low
 unfolding betterb
 lower class low w h e = omega (arith, ltb-true (keyOf w) low (both (leb class (keyOf w)) (ltb (keyOf w) low) e .1))
+
+pub large : (class low w : ℕ) → low ≤ 64 → betterb class low w ≡ true → class ≤ classOf w
+unfolding betterb
+large class low w h e =
+    let p = both (leb class (keyOf w)) (ltb (keyOf w) low) e in
+    omega (arith, leb-true class (keyOf w) (p .0), ltb-true (keyOf w) low (p .1))
 
 -- a record that is better takes the place of the best so far
 pub hit : (order low class at i w : ℕ) (r : List Block) → low ≤ order → order ≤ 64 → betterb class low w ≡ true
@@ -87,6 +106,12 @@ module _ (t : List ℕ) (order class low at i count : ℕ) (h : i < count) (l : 
   passes w b =
       ap (λ (r : List Block). orElse (smallest (low - class) class i r) (held order low at)) (from-step t i count h l)
       ∙ ap (λ (f : Found). orElse f (held order low at)) (miss low class i (getD t (i + 1) 0) (from t (i + 1) count) w b)
+
+-- a block that fits exactly is the best of all
+pub fits-exactly : (t : List ℕ) (order class low at i count : ℕ) → low ≡ class → orElse (smallest (low - class) class i (from t i count)) (held order low at) ≡ held order low at
+fits-exactly t order class low at i count e =
+    let z : low - class ≡ 0 = omega arith in
+    ap (λ (n : ℕ). orElse (smallest n class i (from t i count)) (held order low at)) z
 
 pub ends : (t : List ℕ) (order class low at i count : ℕ) → i ≡ count → orElse (smallest (low - class) class i (from t i count)) (held order low at) ≡ held order low at
 ends t order class low at i count e =

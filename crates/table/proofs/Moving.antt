@@ -5,10 +5,10 @@ use Prim.Native.Nat.{ℕ, zero, suc, _+_, _-_, _≤_, _<_}
 use native.Mathlib.Nat.{le-of-suc-le-suc, not-suc-le-zero, sub-le, sub-zero}
 use native.Mathlib.Numerals.{add-one}
 use native.Mathlib.Omega.{arith}
-use lib.ListN.{length, take, drop, getD, set, replicate, length-append, take-append-drop, replicate-append-replicate, List·getD-append, drop-of-length-le}
+use lib.ListN.{length, take, drop, getD, set, replicate, length-append, take-append-drop, replicate-append-replicate, List·getD-append, length-drop, drop-of-length-le}
 use lib.Seq.{slice, slice-cons, slice-empty, length-slice, length-take-le, take-suc, drop-cons, drop-drop, drop-append-le, drop-append-add, take-at, getD-take, getD-drop, getD-append-add, set-at}
 use Rattle.table.specs.Layout.{pad}
-use Rattle.table.proofs.Pad.{pad-append, pad-zeros, drop-zeros}
+use Rattle.table.proofs.Pad.{pad-append, pad-zeros, drop-zeros, pad-fits}
 
 -- ---- going down: d is the list at the start, and the words from the seam up are written
 
@@ -132,6 +132,13 @@ words-left : (n from to end : ℕ) → to < from → from ≤ end → end ≤ n 
 words-left n from to end k h l =
     let a : end - (from - to) ≡ to + (end - from) = omega arith in
     rw a (omega arith)
+
+-- a tail that stays where it is
+pub tail-still : (d : List ℕ) (from to : ℕ) → from ≡ to → d ≡ take to d ++ pad (length d - to) (drop from d)
+tail-still d from to e =
+    let n : length (drop to d) ≡ length d - to = length-drop to d in
+    let z : length d - to - (length d - to) ≡ 0 = omega arith in
+    rw (e, pad-fits (length d - to) (drop to d) (omega arith), n, z, append-nil) (sym (take-append-drop to d))
 
 module _
     (d : List ℕ)

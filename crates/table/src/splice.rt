@@ -11,6 +11,10 @@ pub fn move_tail(t: &mut [u64], from: usize, to: usize, end: usize)
     requires { ⌜ (from ≤ end) × (end ≤ length (now t)) × (end + to ≤ length (now t) + from) × (drop end (now t) ≡ replicate (length (now t) - end) 0) ⌝ }
     ensures { λ _. ⌜ now (t .exit) ≡ take to (now (t .entry)) ++ pad (length (now (t .entry)) - to) (drop from (now (t .entry))) ⌝ }
 {
+    // nothing moves: a block granted or freed as it stands changes its own word alone
+    if from == to {
+        return;
+    }
     if from <= to {
         move_up(t, from, end, to - from);
     } else {

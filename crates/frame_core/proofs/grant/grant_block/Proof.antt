@@ -45,7 +45,7 @@ pick-requires c κs =
     let s = c .before .before .before .before .before .before .before .before in
     let g = sound-fact (s .args .t .now) (s .pre .0) in
     let o = c .before .before .order-of .ensures in
-    (omega (arith, g .head .room, g .head .long), omega (arith, g .head .high))
+    (omega (arith, g .head .room, g .head .long), omega (arith, c .before .if1 .left), omega (arith, g .head .high))
 
 enum-known-i : tie.Need-enum-known-i
 enum-known-i c = search needs

@@ -5,7 +5,7 @@ use native.Mathlib.Omega.{arith}
 use lib.ListN.{length, getD}
 use Rattle.rules.specs.Rules.{smallest, orElse}
 use Rattle.table.specs.Layout.{blocksOf}
-use Rattle.frame_core.proofs.Pass.{held, begins, takes, passes, ends, in-hand, empty-handed, lower}
+use Rattle.frame_core.proofs.Pass.{held, begins, takes, passes, fits-exactly, ends, in-hand, empty-handed, lower, large}
 use Rattle.frame_core.proofs.Records.{from}
 use borrow.Author.Needs.{needs}
 use Rattle.frame_core.proofs.pick.pick.Statement.{statement}
@@ -13,7 +13,7 @@ use Rattle.frame_core.proofs.pick.pick.Tie as tie
 
 abbrev Inv-loop : tie.InvT-loop
 Inv-loop t order class count low₀ at₀ i₀ low at i =
-    (i ≤ count) × (count < length t) × (low ≤ order) × (order ≤ 64)
+    (i ≤ count) × (count < length t) × (low ≤ order) × (order ≤ 64) × (class ≤ low) × (class < order)
     × (orElse (smallest (low - class) class i (from t i count)) (held order low at) ≡ smallest (order - class) class 0 (blocksOf t))
 
 abbrev μ-loop : tie.MeasureT-loop
@@ -28,7 +28,15 @@ count-of-requires c κs = search needs
 loop-holds : tie.Need-loop-holds Inv-loop μ-loop
 loop-holds c =
     let a = c .before .before .before .args in
-    (omega arith, omega arith, omega arith, omega arith, begins (a .order) (a .class) (c .count-of .result) _ (a .t .now) (c .count-of .ensures))
+    (omega arith, omega arith, omega arith, omega arith, omega arith, omega arith, begins (a .order) (a .class) (c .count-of .result) _ (a .t .now) (c .count-of .ensures))
+
+returns : tie.Need-returns Inv-loop μ-loop
+returns c =
+    let l = c .before .before in
+    let s = l .before in
+    let a = s .before .before .before .args in
+    sym (in-hand (a .order) (l .loop .low) (l .loop .at) (omega arith))
+    ∙ sym (fits-exactly (a .t .now) (a .order) (a .class) (l .loop .low) (l .loop .at) (l .loop .i) (s .count-of .result) (omega arith)) ∙ l .loop .inv .6
 
 add-w : tie.Need-add-w Inv-loop μ-loop
 add-w c = search needs
@@ -53,17 +61,19 @@ loop-less c = search needs
 
 loop-again : tie.Need-loop-again Inv-loop μ-loop
 loop-again c =
-    let l = c .before .before .before .before .before in
+    let l = c .before .before .before .before .before .before in
     let s = l .before in
     let a = s .before .before .before .args in
-    let b = sym (c .before .before .better .ensures) ∙ c .before .if1 .taken in (
+    let b = sym (c .before .before .better .ensures) ∙ c .before .if2 .taken in (
       omega arith,
       omega arith,
       omega (arith, c .class-of .ensures, lower (a .class) (l .loop .low) (getD (a .t .now) (l .loop .i + 1) 0) (omega arith) b),
       omega arith,
+      omega (arith, c .class-of .ensures, large (a .class) (l .loop .low) (getD (a .t .now) (l .loop .i + 1) 0) (omega arith) b),
+      omega arith,
       sym (takes (a .t .now) (a .order) (a .class) (l .loop .low) (l .loop .at) (l .loop .i) (s .count-of .result) (omega arith) (omega arith) (omega arith) (omega arith) b
           (c .class-of .result) (c .class-of .ensures))
-          ∙ l .loop .inv .4,
+          ∙ l .loop .inv .6,
     )
 
 add-i-2 : tie.Need-add-i-2 Inv-loop μ-loop
@@ -74,34 +84,36 @@ loop-less-2 c = search needs
 
 loop-again-2 : tie.Need-loop-again-2 Inv-loop μ-loop
 loop-again-2 c =
-    let l = c .before .before .before .before in
+    let l = c .before .before .before .before .before in
     let s = l .before in
     let a = s .before .before .before .args in
-    let b = sym (c .before .better .ensures) ∙ c .if1 .left in (
+    let b = sym (c .before .better .ensures) ∙ c .if2 .left in (
+      omega arith,
+      omega arith,
       omega arith,
       omega arith,
       omega arith,
       omega arith,
       sym (passes (a .t .now) (a .order) (a .class) (l .loop .low) (l .loop .at) (l .loop .i) (s .count-of .result) (omega arith) (omega arith)
           (c .before .before .shared-slice-known3 .given (l .loop .i + 1) .fits) b)
-          ∙ l .loop .inv .4,
+          ∙ l .loop .inv .6,
     )
-
-returns : tie.Need-returns Inv-loop μ-loop
-returns c =
-    let l = c .before .before in
-    let s = l .before in
-    let a = s .before .before .before .args in
-    sym (in-hand (a .order) (l .loop .low) (l .loop .at) (c .if2 .taken))
-    ∙ sym (ends (a .t .now) (a .order) (a .class) (l .loop .low) (l .loop .at) (l .loop .i) (s .count-of .result) (omega arith)) ∙ l .loop .inv .4
 
 returns-2 : tie.Need-returns-2 Inv-loop μ-loop
 returns-2 c =
     let l = c .before .before in
     let s = l .before in
     let a = s .before .before .before .args in
-    sym (empty-handed (a .order) (l .loop .low) (l .loop .at) (c .if2 .left))
-    ∙ sym (ends (a .t .now) (a .order) (a .class) (l .loop .low) (l .loop .at) (l .loop .i) (s .count-of .result) (omega arith)) ∙ l .loop .inv .4
+    sym (in-hand (a .order) (l .loop .low) (l .loop .at) (c .if3 .taken))
+    ∙ sym (ends (a .t .now) (a .order) (a .class) (l .loop .low) (l .loop .at) (l .loop .i) (s .count-of .result) (omega arith)) ∙ l .loop .inv .6
+
+returns-3 : tie.Need-returns-3 Inv-loop μ-loop
+returns-3 c =
+    let l = c .before .before in
+    let s = l .before in
+    let a = s .before .before .before .args in
+    sym (empty-handed (a .order) (l .loop .low) (l .loop .at) (c .if3 .left))
+    ∙ sym (ends (a .t .now) (a .order) (a .class) (l .loop .low) (l .loop .at) (l .loop .i) (s .count-of .result) (omega arith)) ∙ l .loop .inv .6
 
 pub pick-spec : {M : Type 1} → statement M
 pick-spec =
@@ -112,6 +124,7 @@ pick-spec =
     shared-slice-read-count-of
     count-of-requires
     loop-holds
+    returns
     add-w
     mul-w
     shared-slice-read-w
@@ -123,5 +136,5 @@ pick-spec =
     add-i-2
     loop-less-2
     loop-again-2
-    returns
-    returns-2)
+    returns-2
+    returns-3)
