@@ -14,9 +14,7 @@ use Rattle.blocks.specs.declared.Rounded.{Rounded}
 use Rattle.blocks.proofs.Rounding.{rounding, class-is, above-is, aligned-is}
 use Rattle.table.specs.Layout.{orderOf, blocksOf}
 use Rattle.table.specs.Sound.{soundb}
-use Rattle.frame_core.specs.Tally.{Tallied}
-use Rattle.table.proofs.State.{table-is}
-use Rattle.frame.specs.Outcome.{Call, Summary, Add, Alloc, AllocAligned, AllocAt, Dealloc, DeallocAligned, zeros, decide, outcome}
+use Rattle.frame.specs.Outcome.{Call, Add, Alloc, AllocAligned, AllocAt, Dealloc, DeallocAligned, zeros, decide, outcome}
 use Rattle.frame_core.specs.Deciding.{Decision, adding, granting, grantingAt, releasing, wanted}
 use Rattle.frame_core.specs.Carried.{Reply, carried, Says, replyOf}
 
@@ -78,19 +76,3 @@ module _ (ws : List ℕ) where
         → Says (outcome (DeallocAligned s n a) ws) r after
     unfolding outcome decide
     released-aligned s n a p w = rw (sound, outcome, p) w
-
--- ---- the summary, which leaves every word
-
-pub unsound-summary : (ws : List ℕ) → soundb ws ≡ false → Says (outcome Summary ws) (record { number = 3; values = 0 ∷ 0 ∷ 0 ∷ [] }) ws
-unfolding outcome
-unsound-summary ws e = rw (e, outcome) (record { reply = refl; words = refl })
-
-pub summed : (ws : List ℕ) → soundb ws ≡ true → ((k : ℕ) → getD ws k 0 < 2 ^ 64) → (g m l : ℕ) → Tallied (blocksOf ws) g m l
-    → Says (outcome Summary ws) (record { number = 0; values = g ∷ m ∷ l ∷ [] }) ws
-unfolding outcome decide
-summed ws sound fits g m l t =
-    rw (sound, outcome)
-    (record {
-      reply = rw (t .granted-are, t .managed-are, t .largest-is);
-      words = table-is ws sound fits;
-    })
