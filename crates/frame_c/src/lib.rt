@@ -1,0 +1,68 @@
+// The frame table for C: each call on a pointer, a count of words and numbers, and an answer of two numbers. include/lavikety.h is
+// what C sees of it.
+ghost use mathlib.Core.Path.{_≡_};
+ghost use Rattle.frame.specs.Outcome.{Add, Alloc, AllocAligned, AllocAt, Dealloc, DeallocAligned, outcome};
+ghost use Rattle.frame_c.specs.Crossed.{Crossed, numbersOf};
+use answers::Answer;
+
+// 16 bytes, so that it comes back in registers on both machines.
+#[repr(C)]
+pub struct CAnswer {
+    pub number: u64,
+    pub value: u64,
+}
+
+fn numbers(answer: Answer) -> CAnswer
+    ensures { λ r. ⌜ r ≡ numbersOf answer ⌝ }
+{
+    let number = answers::number(answer);
+    let value = answers::value(answer);
+    CAnswer { number, value }
+}
+
+#[no_mangle]
+pub extern "C" fn lavikety_frame_add(t: &mut [u64], start: u64, end: u64) -> CAnswer
+    ensures { λ r. ⌜ Crossed (outcome (Add start end) (now (t .entry))) r (now (t .exit)) ⌝ }
+{
+    numbers(frame::add_frame(t, start, end))
+}
+
+#[no_mangle]
+pub extern "C" fn lavikety_frame_alloc(t: &mut [u64], count: u64) -> CAnswer
+    ensures { λ r. ⌜ Crossed (outcome (Alloc count) (now (t .entry))) r (now (t .exit)) ⌝ }
+{
+    numbers(frame::alloc(t, count))
+}
+
+#[no_mangle]
+pub extern "C" fn lavikety_frame_alloc_aligned(t: &mut [u64], size: u64, align: u64) -> CAnswer
+    ensures { λ r. ⌜ Crossed (outcome (AllocAligned size align) (now (t .entry))) r (now (t .exit)) ⌝ }
+{
+    numbers(frame::alloc_aligned(t, size, align))
+}
+
+#[no_mangle]
+pub extern "C" fn lavikety_frame_alloc_at(t: &mut [u64], start: u64, count: u64) -> CAnswer
+    ensures { λ r. ⌜ Crossed (outcome (AllocAt start count) (now (t .entry))) r (now (t .exit)) ⌝ }
+{
+    numbers(frame::alloc_at(t, start, count))
+}
+
+#[no_mangle]
+pub extern "C" fn lavikety_frame_dealloc(t: &mut [u64], start: u64, count: u64) -> CAnswer
+    ensures { λ r. ⌜ Crossed (outcome (Dealloc start count) (now (t .entry))) r (now (t .exit)) ⌝ }
+{
+    numbers(frame::dealloc(t, start, count))
+}
+
+#[no_mangle]
+pub extern "C" fn lavikety_frame_dealloc_aligned(
+    t: &mut [u64],
+    start: u64,
+    size: u64,
+    align: u64,
+) -> CAnswer
+    ensures { λ r. ⌜ Crossed (outcome (DeallocAligned start size align) (now (t .entry))) r (now (t .exit)) ⌝ }
+{
+    numbers(frame::dealloc_aligned(t, start, size, align))
+}
