@@ -17,3 +17,7 @@ replyOfC r = record { number = r .number; values = r .value ∷ [] }
 -- this C answer and these words are the outcome's
 abbrev pub Crossed : Outcome → CAnswer → List ℕ → Type 0
 Crossed o r after = Says o (replyOfC r) after
+
+-- of a summary, this number and these figures; it leaves the words as they are
+abbrev pub CrossedFigures : Outcome → ℕ → List ℕ → List ℕ → Type 0
+CrossedFigures o number figures words = Says o (record { number = number; values = figures }) words

@@ -1,11 +1,12 @@
-// The frame table for C: each call on a pointer, a count of words and numbers, and an answer of two numbers. include/lavikety.h is
-// what C sees of it.
+// The frame table for C: each call takes a pointer, a count of words, and numbers, and answers two numbers. include/lavikety.h is
+// what C sees of it; nothing larger than 16 bytes crosses by value.
 ghost use mathlib.Core.Path.{_≡_};
-ghost use Rattle.frame.specs.Outcome.{Add, Alloc, AllocAligned, AllocAt, Dealloc, DeallocAligned, outcome};
-ghost use Rattle.frame_c.specs.Crossed.{Crossed, numbersOf};
+ghost use Rattle.frame.specs.Outcome.{Add, Alloc, AllocAligned, AllocAt, Dealloc, DeallocAligned, Summary, outcome, making};
+ghost use Rattle.frame_c.specs.Crossed.{Crossed, CrossedFigures, numbersOf};
 use answers::Answer;
+use frame::Report;
 
-// 16 bytes, so that it comes back in registers on both machines.
+// An answer as C gets it: 16 bytes, which come back in registers on every machine that we compile for.
 #[repr(C)]
 pub struct CAnswer {
     pub number: u64,
@@ -18,6 +19,13 @@ fn numbers(answer: Answer) -> CAnswer
     let number = answers::number(answer);
     let value = answers::value(answer);
     CAnswer { number, value }
+}
+
+#[no_mangle]
+pub extern "C" fn lavikety_frame_new(t: &mut [u64], order: u64) -> CAnswer
+    ensures { λ r. ⌜ Crossed (making order (now (t .entry))) r (now (t .exit)) ⌝ }
+{
+    numbers(frame::new(t, order))
 }
 
 #[no_mangle]
@@ -65,4 +73,20 @@ pub extern "C" fn lavikety_frame_dealloc_aligned(
     ensures { λ r. ⌜ Crossed (outcome (DeallocAligned start size align) (now (t .entry))) r (now (t .exit)) ⌝ }
 {
     numbers(frame::dealloc_aligned(t, start, size, align))
+}
+
+#[no_mangle]
+pub extern "C" fn lavikety_frame_summary(t: &[u64], figures: &mut [u64; 3]) -> u64
+    ensures { λ r. ⌜ CrossedFigures (outcome Summary (now (t .entry))) r (now (figures .exit)) (now (t .entry)) ⌝ }
+{
+    match frame::summary(t) {
+        Report::Of(f) => {
+            *figures = [f.granted, f.managed, f.largest];
+            0
+        }
+        Report::Refused(refusal) => {
+            *figures = [0, 0, 0];
+            answers::refusal_number(refusal)
+        }
+    }
 }
