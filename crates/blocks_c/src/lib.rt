@@ -1,4 +1,4 @@
-// The functions of `blocks` for C and Rust to call, so that a run can hold them to the Rust. The firmware's header has none of them.
+// The functions of `blocks` for C and Rust to call, so that a run can hold them to the Rust. Firmware needs none of them.
 ghost use mathlib.Core.Path.{_≡_};
 ghost use Rattle.blocks.specs.Blocks.{sizeOf, sizeClass, prevPowerOfTwo, rounded, roundedAligned, isPowerOfTwo, lowestBit, buddyOf, pieceSize};
 ghost use Rattle.blocks_c.specs.Numbers.{classNumber, flag};

@@ -1,0 +1,134 @@
+/* lavikety.h: memory handed out in blocks of frames, over a table of words that the caller lends.
+ *
+ * A frame is a unit of memory of whatever size you choose; the library sees its number only, 0 to 2^32 - 1, and never touches the
+ * memory itself. A block is 1, 2, 4, .. 2^32 frames and starts at a multiple of its size. ORDER, 1 to 33, is chosen when a table is
+ * made: the largest block of that table has 2^(ORDER-1) frames. Every count is rounded up to a block: 5 frames are granted as 8, and
+ * 0 frames as 1.
+ *
+ * THE TABLE is 1 to 65,536 words of 64 bits, fields from the most significant bit:
+ *     word 0: ORDER 6 bits, number of records 16, zero 42;
+ *     a record, one for each free or granted block, ascending: granted 1 bit, class 6 (the block has 2^class frames), zero 25, start 32.
+ * Words after the last record are zero. A table of n words has room for n - 1 blocks, free and granted together. You may read it, copy
+ * it and move it; what you write into it is tested at the next call.
+ *
+ * EVERY CALL answers for every number and every content of the words. None traps, loops for ever, allocates, or keeps anything
+ * between calls: all state is in your words. A refused call gives its number, the value 0, and changes no word. An accepted call
+ * gives number 0 and, for a grant, the first frame as its value. Which block is granted is fixed by the rules: the smallest that
+ * suffices, among those the one with the lowest start.
+ *
+ * WHAT YOU MUST SEE TO, since C cannot be held to it:
+ *   - `table` points to `words` words that can be read and (but for the summary) written, and is 8-byte aligned. It is not null, unless
+ *     `words` is 0.
+ *   - Nobody else reads or writes these words while a call runs: no other thread, no interrupt, no DMA. There is no lock inside.
+ *   - `figures` points to three words that are not in the table.
+ *
+ * TIME. Each call reads every lent word once to see that the table is sound, and adding, granting and releasing move at most all
+ * records once. So lend no more words than you need.
+ *
+ * POWER LOSS inside a call may leave a table that is half changed. The next call then most often finds it not sound and refuses with
+ * LAVIKETY_BAD_STATE; nothing is proved of a call that is cut short. After such a loss make a new table, or go back to a copy.
+ *
+ * EXAMPLE
+ *     static uint64_t table[64];
+ *     lavikety_frame_new(table, 64, 33);
+ *     lavikety_frame_add(table, 64, 0, 1024);                    frames 0 to 1023 are ours to grant
+ *     lavikety_answer got = lavikety_frame_alloc(table, 64, 5);   8 frames
+ *     if (got.number == LAVIKETY_DONE)
+ *         use(got.value);                                        the first of them
+ *     lavikety_frame_dealloc(table, 64, got.value, 5);
+ *
+ * examples/frames.c is a whole program. To build the library for the machine at hand: tools/native frame_c, then link
+ * target/native/libframe_c.a. It needs nothing else at link time.
+ */
+#ifndef LAVIKETY_H
+#define LAVIKETY_H
+
+#include <stddef.h>
+#include <stdint.h>
+
+#ifdef __cplusplus
+extern "C" {
+#endif
+
+/* What a call gives: 0 or a refusal's number, and beside 0 what was asked for. It comes back by value, in registers. */
+typedef struct lavikety_answer {
+    uint64_t number;
+    uint64_t value;
+} lavikety_answer;
+
+/* The numbers, each with its cause. Where several causes hold, the smallest number is given; but in lavikety_frame_alloc_at a size
+ * above the top block gets 9 and not 8. */
+enum {
+    LAVIKETY_DONE = 0,
+    LAVIKETY_BAD_ORDER = 1,    /* making: ORDER is not 1 to 33 */
+    LAVIKETY_BAD_SIZE = 2,     /* making: not 1 to 65,536 words */
+    LAVIKETY_BAD_STATE = 3,    /* the words are no sound table: never made, damaged, or another length than it was made with */
+    LAVIKETY_BAD_RANGE = 4,    /* adding: start > end, or end > 2^32 */
+    LAVIKETY_NULL_START = 5,   /* no frame call gives this; the number is kept for the heap */
+    LAVIKETY_OVERLAP = 6,      /* adding: a frame of the range is in the table already, free or granted */
+    LAVIKETY_BAD_ALIGN = 7,    /* the alignment is not a power of two (0 is none) */
+    LAVIKETY_MISALIGNED = 8,   /* granting at a start: start is no multiple of the rounded count */
+    LAVIKETY_NO_BLOCK = 9,     /* granting: rounded up, it is above the largest block, or no free block serves */
+    LAVIKETY_NOT_GRANTED = 10, /* releasing: no granted block has this start and this rounded size */
+    LAVIKETY_NO_ROOM = 11      /* adding or granting: the blocks afterwards would not fit into the table */
+};
+
+/* What lavikety_frame_summary writes where: the length of `figures`, and the places in it. */
+enum {
+    LAVIKETY_FRAMES_GRANTED = 0,
+    LAVIKETY_FRAMES_MANAGED = 1, /* granted and free together */
+    LAVIKETY_LARGEST_FREE_RUN = 2, /* frames in the largest free block, 0 if there is none */
+    LAVIKETY_FIGURES = 3
+};
+
+/* Makes a table without blocks over any words: word 0 is written and every other word is zeroed. Numbers 1, 2. */
+lavikety_answer lavikety_frame_new(uint64_t *table, size_t words, uint64_t order);
+
+/* Adds the frames start to end - 1 as free blocks. An empty range is accepted and adds nothing. Numbers 3, 4, 6, 11. */
+lavikety_answer lavikety_frame_add(uint64_t *table, size_t words, uint64_t start, uint64_t end);
+
+/* Grants `count` frames, rounded up; the value is the first. Numbers 3, 9, 11. */
+lavikety_answer lavikety_frame_alloc(uint64_t *table, size_t words, uint64_t count);
+
+/* Grants the larger of `size`, rounded up, and `align`; the value is the first frame, a multiple of both. Numbers 3, 7, 9, 11. */
+lavikety_answer lavikety_frame_alloc_aligned(uint64_t *table, size_t words, uint64_t size, uint64_t align);
+
+/* Grants `count` frames, rounded up, at `start` and nowhere else; the value is start. Numbers 3, 8, 9, 11. */
+lavikety_answer lavikety_frame_alloc_at(uint64_t *table, size_t words, uint64_t start, uint64_t count);
+
+/* Releases the granted block at `start` whose size is `count` rounded up. It never lacks room. Numbers 3, 10. */
+lavikety_answer lavikety_frame_dealloc(uint64_t *table, size_t words, uint64_t start, uint64_t count);
+
+/* Releases the block at `start` that lavikety_frame_alloc_aligned grants for this size and alignment. Numbers 3, 7, 10. */
+lavikety_answer lavikety_frame_dealloc_aligned(uint64_t *table, size_t words, uint64_t start, uint64_t size, uint64_t align);
+
+/* Writes the three figures, zeros where refused, and gives the number itself: 0 or 3. */
+uint64_t lavikety_frame_summary(const uint64_t *table, size_t words, uint64_t figures[LAVIKETY_FIGURES]);
+
+/* ---- The numbers of blocks by themselves, for tools: target/native/libblocks_c.a, by tools/native blocks_c. They hold no state, are
+ * no part of the frame calls, and may change; firmware needs none of them. */
+
+/* The class whose blocks hold count frames: 0 to 32, or 64 for a count above 2^32. */
+uint64_t lavikety_blocks_round(uint64_t count);
+/* The same for a request with an alignment: the class of the larger of the two, each rounded up. */
+uint64_t lavikety_blocks_round_aligned(uint64_t size, uint64_t align);
+/* The size of a block of the class: 2^class, and 0 for a class above 32. */
+uint64_t lavikety_blocks_size_of(uint64_t class_number);
+/* The class of a size that is a power of two. */
+uint64_t lavikety_blocks_class_of(uint64_t size);
+/* The largest power of two that is at most num; 0 at 0. */
+uint64_t lavikety_blocks_prev_power_of_two(uint64_t num);
+/* 1 if num is a power of two, else 0. */
+uint64_t lavikety_blocks_is_power_of_two(uint64_t num);
+/* The largest power of two that divides start; 0 at 0. */
+uint64_t lavikety_blocks_lowest_bit(uint64_t start);
+/* The start of the block beside the one at start: start with its bit class_number flipped. */
+uint64_t lavikety_blocks_buddy(uint64_t start, uint64_t class_number);
+/* The size of the next block cut from `left` frames at start, of a class up to `top`. */
+uint64_t lavikety_blocks_piece(uint64_t start, uint64_t left, uint64_t top);
+
+#ifdef __cplusplus
+}
+#endif
+
+#endif /* LAVIKETY_H */
