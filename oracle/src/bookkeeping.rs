@@ -35,6 +35,15 @@ impl Bookkeeping {
         })
     }
 
+    /// A table that holds these blocks already; whoever calls has seen that it is sound.
+    pub fn holding(words: usize, order: u32, blocks: Vec<Block>) -> Bookkeeping {
+        Bookkeeping {
+            order,
+            capacity: words - 1,
+            blocks,
+        }
+    }
+
     pub fn order(&self) -> u32 {
         self.order
     }

@@ -7,6 +7,7 @@ use crate::call::Call;
 use crate::crate_guard::guarded;
 use crate::real_crate::{self, RealAllocator};
 use crate::same_state;
+use crate::soundness;
 use crate::words;
 use std::alloc::Layout;
 use std::fmt;
@@ -60,6 +61,19 @@ impl Judge {
         let paper = Bookkeeping::new(words, order)?;
         let real = real_crate::fresh(paper.order());
         Ok(Judge { paper, real })
+    }
+
+    /// The table of these words, with the crate's fields set to what it says; nothing where it is not sound.
+    pub fn of_table(words: &[u64]) -> Option<Judge> {
+        if !soundness::broken(words).is_empty() {
+            return None;
+        }
+        let table = soundness::read(words);
+        let order = table.order as u32;
+        let mut real = real_crate::fresh(order);
+        real.load(&table.blocks);
+        let paper = Bookkeeping::holding(words.len(), order, table.blocks);
+        Some(Judge { paper, real })
     }
 
     /// Makes the table anew on the same words; refused, it keeps the table.
@@ -131,6 +145,11 @@ impl Judge {
 
     pub fn blocks(&self) -> &[Block] {
         self.paper.blocks()
+    }
+
+    /// The summary read from the crate's own fields and free sets.
+    pub fn figures_of_crate(&self) -> Figures {
+        self.real.figures()
     }
 
     /// The table's words in the layout of docs/RULES.md.

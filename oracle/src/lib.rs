@@ -16,4 +16,5 @@ pub mod random_run;
 pub mod real_crate;
 pub mod rules;
 pub mod same_state;
+pub mod soundness;
 pub mod words;

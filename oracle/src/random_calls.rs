@@ -29,6 +29,11 @@ impl Trouble {
             1 => numbers.between(29, 33),
             _ => numbers.between(1, 33),
         } as u32;
+        Trouble::on(numbers, words, order, all_calls)
+    }
+
+    /// The same on a table whose length and ORDER are given.
+    pub fn on(numbers: &mut RandomNumbers, words: usize, order: u32, all_calls: bool) -> Trouble {
         let span_bits = numbers.pick(&[3, 5, 8, 12, 16, 16, 20, 32]);
         let highest = FRAME_LIMIT - (1 << span_bits);
         let base = match numbers.below(4) {

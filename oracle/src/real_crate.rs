@@ -1,6 +1,7 @@
 //! The real crate's frame allocator, every ORDER behind one trait, since ORDER is a const generic there.
 
 use crate::answer::Figures;
+use crate::block::Block;
 use buddy_system_allocator::FrameAllocator;
 use std::alloc::Layout;
 use std::collections::BTreeSet;
@@ -15,6 +16,8 @@ pub trait RealAllocator {
     fn alloc_at(&mut self, start: usize, count: usize) -> Option<usize>;
     fn dealloc(&mut self, start: usize, count: usize);
     fn dealloc_aligned(&mut self, start: usize, layout: Layout);
+    /// Sets the fields of a fresh allocator to these blocks.
+    fn load(&mut self, blocks: &[Block]);
     fn free_list(&self) -> &[BTreeSet<usize>];
     fn allocated(&self) -> usize;
     fn total(&self) -> usize;
@@ -57,6 +60,16 @@ impl<const ORDER: usize> RealAllocator for FrameAllocator<ORDER> {
 
     fn dealloc_aligned(&mut self, start: usize, layout: Layout) {
         FrameAllocator::dealloc_aligned(self, start, layout)
+    }
+
+    fn load(&mut self, blocks: &[Block]) {
+        for block in blocks {
+            self.total += block.size() as usize;
+            match block.granted {
+                true => self.allocated += block.size() as usize,
+                false => _ = self.free_list[block.class as usize].insert(block.start as usize),
+            }
+        }
     }
 
     fn free_list(&self) -> &[BTreeSet<usize>] {
