@@ -19,6 +19,7 @@
  * WHAT YOU MUST SEE TO, since C cannot be held to it:
  *   - `table` points to `words` words that can be read and (but for the summary) written, and is 8-byte aligned. It is not null, unless
  *     `words` is 0.
+ *   - `words` is the same for a table from its making on: the table does not hold its own length.
  *   - Nobody else reads or writes these words while a call runs: no other thread, no interrupt, no DMA. There is no lock inside.
  *   - `figures` points to three words that are not in the table.
  *
@@ -33,9 +34,10 @@
  *     lavikety_frame_new(table, 64, 33);
  *     lavikety_frame_add(table, 64, 0, 1024);                    frames 0 to 1023 are ours to grant
  *     lavikety_answer got = lavikety_frame_alloc(table, 64, 5);   8 frames
- *     if (got.number == LAVIKETY_DONE)
+ *     if (got.number == LAVIKETY_DONE) {
  *         use(got.value);                                        the first of them
- *     lavikety_frame_dealloc(table, 64, got.value, 5);
+ *         lavikety_frame_dealloc(table, 64, got.value, 5);
+ *     }
  *
  * examples/frames.c is a whole program. To build the library for the machine at hand: tools/native frame_c, then link
  * target/native/libframe_c.a. It needs nothing else at link time.
@@ -62,7 +64,7 @@ enum {
     LAVIKETY_DONE = 0,
     LAVIKETY_BAD_ORDER = 1,    /* making: ORDER is not 1 to 33 */
     LAVIKETY_BAD_SIZE = 2,     /* making: not 1 to 65,536 words */
-    LAVIKETY_BAD_STATE = 3,    /* the words are no sound table: never made, damaged, or another length than it was made with */
+    LAVIKETY_BAD_STATE = 3,    /* the words are no sound table: never made, damaged, or cut short */
     LAVIKETY_BAD_RANGE = 4,    /* adding: start > end, or end > 2^32 */
     LAVIKETY_NULL_START = 5,   /* no frame call gives this; the number is kept for the heap */
     LAVIKETY_OVERLAP = 6,      /* adding: a frame of the range is in the table already, free or granted */
@@ -90,7 +92,7 @@ lavikety_answer lavikety_frame_add(uint64_t *table, size_t words, uint64_t start
 /* Grants `count` frames, rounded up; the value is the first. Numbers 3, 9, 11. */
 lavikety_answer lavikety_frame_alloc(uint64_t *table, size_t words, uint64_t count);
 
-/* Grants the larger of `size`, rounded up, and `align`; the value is the first frame, a multiple of both. Numbers 3, 7, 9, 11. */
+/* Grants the larger of `size`, rounded up, and `align`; the value is the first frame, a multiple of the block. Numbers 3, 7, 9, 11. */
 lavikety_answer lavikety_frame_alloc_aligned(uint64_t *table, size_t words, uint64_t size, uint64_t align);
 
 /* Grants `count` frames, rounded up, at `start` and nowhere else; the value is start. Numbers 3, 8, 9, 11. */
