@@ -40,7 +40,7 @@
  *     }
  *
  * examples/frames.c is a whole program. To build the library for the machine at hand: tools/native frame_c, then link
- * target/native/libframe_c.a. It needs nothing else at link time.
+ * target/native/libframe_c.a. At link time it needs memset and nothing else.
  */
 #ifndef LAVIKETY_H
 #define LAVIKETY_H
