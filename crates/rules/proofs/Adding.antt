@@ -17,7 +17,7 @@ pub record Range (top s n : ℕ) : Type 0 where
   pub order : top ≤ 32
   pub within : s + n ≤ 2 ^ 32
 
-piece-fits : {top s n : ℕ} → Range top s n → 0 < n → Piece top s n (pieceSize top s n)
+pub piece-fits : {top s n : ℕ} → Range top s n → 0 < n → Piece top s n (pieceSize top s n)
 piece-fits {top} {s} {n} r p = pieces.piece top s n (r .order) (omega (arith, r .within)) p (omega (arith, r .within))
 
 pub rest-range : {top s n : ℕ} → Range top s n → 0 < n → Range top (s + pieceSize top s n) (n - pieceSize top s n)

@@ -1,5 +1,9 @@
 pub mod Aligned
 pub mod Largest
+pub mod Members
+pub mod Putting
+pub mod Released
+pub mod Added
 pub mod Lists
 pub mod Joining
 pub mod Adding

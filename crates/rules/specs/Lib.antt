@@ -1,3 +1,4 @@
 pub mod Aligned
 pub mod Largest
 pub mod Rules
+pub mod Managed

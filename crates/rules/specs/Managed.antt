@@ -1,0 +1,72 @@
+-- What a list of blocks says of frames: which are managed, granted, left; and when nothing of it is left to join.
+use mathlib.Core.Path.{_≡_}
+use mathlib.Core.Logic.{_↔_}
+use mathlib.Core.Bool.{Bool, true, false}
+use mathlib.Core.List.{List, [], _∷_, List·Memᴰ}
+use Prim.Native.Nat.{ℕ, suc, _≤_, _<_}
+use Rattle.rules.specs.Aligned.{Covers}
+use Rattle.rules.specs.Largest.{Covered, Joined}
+use Rattle.rules.specs.Rules.{Block, blk, Sound, isGranted, some, released}
+
+infix 40 _∈_
+abbrev pub _∈_ : Block → List Block → Type 0
+b ∈ bs = List·Memᴰ b bs
+
+-- the list has the block of class k at s as a free one; as a granted one
+abbrev pub Free : List Block → ℕ → ℕ → Type 0
+Free bs k s = blk false k s ∈ bs
+
+abbrev pub Granted : List Block → ℕ → ℕ → Type 0
+Granted bs k s = blk true k s ∈ bs
+
+-- the block of class j at t is that of class k at s
+pub record Is (k s j t : ℕ) : Type 0 where
+  pub class : j ≡ k
+  pub start : t ≡ s
+
+-- the frame x lies in a block of the list
+pub record Managed (bs : List Block) (x : ℕ) : Type 0 where
+  pub granted : Bool
+  pub class : ℕ
+  pub start : ℕ
+  pub member : blk granted class start ∈ bs
+  pub covers : Covers class start x
+
+-- the frame x lies in [s, e)
+pub record Within (s e x : ℕ) : Type 0 where
+  pub from : s ≤ x
+  pub to : x < e
+
+-- "frames added and not granted"
+pub record Left (bs : List Block) (x : ℕ) : Type 0 where
+  pub managed : Managed bs x
+  pub not-granted : Covered (Granted bs) x → ⊥
+
+-- a managed frame lies in [s, e), or next to it
+pub record Touches (s e : ℕ) (bs : List Block) : Type 0 where
+  pub frame : ℕ
+  pub managed : Managed bs frame
+  pub from : s ≤ suc frame
+  pub to : frame ≤ e
+
+-- a sound list of which nothing is left to join
+pub record Kept (top : ℕ) (bs : List Block) : Type 0 where
+  pub sound : Sound top 0 bs
+  pub joined : Joined top (Free bs)
+
+-- two lists manage the same frames, and have the same granted blocks
+pub record Same (bs cs : List Block) : Type 0 where
+  pub frames : (x : ℕ) → Managed bs x ↔ Managed cs x
+  pub granted : (k s : ℕ) → Granted bs k s ↔ Granted cs k s
+
+-- what a change leaves: a sound list that manages the frames F and has the granted blocks G; and nothing to join, if P
+pub record Leaves (top : ℕ) (F : ℕ → Type 0) (G : ℕ → ℕ → Type 0) (P : Type 0) (after : List Block) : Type 0 where
+  pub sound : Sound top 0 after
+  pub frames : (x : ℕ) → Managed after x ↔ F x
+  pub granted : (k s : ℕ) → Granted after k s ↔ G k s
+  pub joined : P → Joined top (Free after)
+
+-- the granted blocks gs are released one after the other, each accepted, and leave `after`
+pub data Releases (top : ℕ) : List Block → List Block → List Block → Type 0 where
+  no-more : {bs : List Block} → Releases top [] bs bs
+  and-then : {k s : ℕ} {gs bs after : List Block} → some (isGranted k s) bs ≡ true → Releases top gs (released top k s bs) after → Releases top (blk true k s ∷ gs) bs after
