@@ -4,6 +4,7 @@ pub mod Members
 pub mod Putting
 pub mod Released
 pub mod Added
+pub mod Halved
 pub mod Lists
 pub mod Joining
 pub mod Adding

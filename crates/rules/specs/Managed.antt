@@ -4,9 +4,10 @@ use mathlib.Core.Logic.{_↔_}
 use mathlib.Core.Bool.{Bool, true, false}
 use mathlib.Core.List.{List, [], _∷_, List·Memᴰ}
 use Prim.Native.Nat.{ℕ, suc, _≤_, _<_}
-use Rattle.rules.specs.Aligned.{Covers}
+use lib.ListN.{length}
+use Rattle.rules.specs.Aligned.{Aligned, Covers, Holds}
 use Rattle.rules.specs.Largest.{Covered, Joined}
-use Rattle.rules.specs.Rules.{Block, blk, Sound, isGranted, some, released}
+use Rattle.rules.specs.Rules.{Block, blk, granted, class, start, Sound, isGranted, some, blockAt, released}
 
 infix 40 _∈_
 abbrev pub _∈_ : Block → List Block → Type 0
@@ -53,6 +54,13 @@ pub record Touches (s e : ℕ) (bs : List Block) : Type 0 where
 pub record Kept (top : ℕ) (bs : List Block) : Type 0 where
   pub sound : Sound top 0 bs
   pub joined : Joined top (Free bs)
+
+-- the block at place i is free and holds the aligned run of class c
+pub record Offers (c run i : ℕ) (bs : List Block) : Type 0 where
+  pub here : i < length bs
+  pub free : granted (blockAt i bs) ≡ false
+  pub aligned : Aligned c run
+  pub holds : Holds (class (blockAt i bs)) (start (blockAt i bs)) c run
 
 -- two lists manage the same frames, and have the same granted blocks
 pub record Same (bs cs : List Block) : Type 0 where
