@@ -5,6 +5,7 @@ pub mod Putting
 pub mod Released
 pub mod Added
 pub mod Halved
+pub mod Unique
 pub mod Lists
 pub mod Joining
 pub mod Adding
