@@ -6,6 +6,9 @@ pub mod Released
 pub mod Added
 pub mod Halved
 pub mod Unique
+pub mod Restored
+pub mod Orders
+pub mod Refused
 pub mod Lists
 pub mod Joining
 pub mod Adding

@@ -97,7 +97,7 @@ insert-at (blk i j t ∷ xs) g k s ys (and-below l b) a h =
 abbrev pub Picks : (Block → Bool) → ℕ → ℕ → Type 0
 Picks p k f = (g : Bool) (j t : ℕ) → p (blk g j t) ≡ true → (j ≡ k) × (t ≡ f)
 
-both : (a b : Bool) → (a && b) ≡ true → (a ≡ true) × (b ≡ true)
+pub both : (a b : Bool) → (a && b) ≡ true → (a ≡ true) × (b ≡ true)
 both true b e = (refl, e)
 both false b e = absurd (true≢false (sym e))
 

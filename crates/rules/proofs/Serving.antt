@@ -45,13 +45,13 @@ none-left (suc n) c i = none-left n (suc c) i
 
 -- ---- what was found: a place of the list, with a free block that is large enough
 
-record FirstAt (p : Block → Bool) (o i : ℕ) (bs : List Block) : Type 0 where
-  n : ℕ
-  at : i ≡ o + n
-  here : n < length bs
-  passes : p (blockAt n bs) ≡ true
+pub record FirstAt (p : Block → Bool) (o i : ℕ) (bs : List Block) : Type 0 where
+  pub n : ℕ
+  pub at : i ≡ o + n
+  pub here : n < length bs
+  pub passes : p (blockAt n bs) ≡ true
 
-first-at : (p : Block → Bool) (o i : ℕ) (bs : List Block) → firstFrom p o bs ≡ At i → FirstAt p o i bs
+pub first-at : (p : Block → Bool) (o i : ℕ) (bs : List Block) → firstFrom p o bs ≡ At i → FirstAt p o i bs
 first-at p o i [] e = let z : _≡_ {A = ℕ} 0 1 = cc in absurd (omega arith)
 first-at p o i (b ∷ bs) e = go (p b) refl (first-at p (o + 1) i bs)
   where

@@ -43,6 +43,12 @@ pub record Left (bs : List Block) (x : ℕ) : Type 0 where
   pub managed : Managed bs x
   pub not-granted : Covered (Granted bs) x → ⊥
 
+-- "a frame of that run is not free", where the run is [s, e)
+pub record Lacks (bs : List Block) (s e : ℕ) : Type 0 where
+  pub frame : ℕ
+  pub within : Within s e frame
+  pub not-left : Left bs frame → ⊥
+
 -- a managed frame lies in [s, e), or next to it
 pub record Touches (s e : ℕ) (bs : List Block) : Type 0 where
   pub frame : ℕ
@@ -78,3 +84,8 @@ pub record Leaves (top : ℕ) (F : ℕ → Type 0) (G : ℕ → ℕ → Type 0) 
 pub data Releases (top : ℕ) : List Block → List Block → List Block → Type 0 where
   no-more : {bs : List Block} → Releases top [] bs bs
   and-then : {k s : ℕ} {gs bs after : List Block} → some (isGranted k s) bs ≡ true → Releases top gs (released top k s bs) after → Releases top (blk true k s ∷ gs) bs after
+
+-- no block stands in the list twice
+pub data Distinct : List Block → Type 0 where
+  none-twice : Distinct []
+  and-once : {b : Block} {bs : List Block} → (b ∈ bs → ⊥) → Distinct bs → Distinct (b ∷ bs)

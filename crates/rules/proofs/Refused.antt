@@ -1,0 +1,116 @@
+-- A request finds no block exactly when no run of its class is wholly left, or the run that it names is not. Assumes nothing.
+use mathlib.Core.Path.{_≡_, refl, sym, _∙_}
+use mathlib.Core.Logic.{_⊎_, _↔_, inl, inr, ⊎-elim}
+use mathlib.Core.Bool.{Bool, true, false, not, _&&_, true≢false}
+use mathlib.Core.List.{List, [], _∷_, List·Memᴰ·head, List·Memᴰ·tail, List·Memᴰ·not-nil}
+use Prim.Native.Nat.{ℕ, zero, suc, _+_, _-_, _^_, _≤_, _<_}
+use native.Mathlib.Omega.{arith}
+use native.Mathlib.Decide.{decLt}
+use lib.Pow.{pow-pos}
+use lib.Dec.{eqb, leb, ltb}
+use lib.ListN.{length}
+use borrow.Author.Tests.{leb-true, ltb-true, not-true, le-leb, lt-ltb, eq-eqb, eqb-false}
+use Rattle.rules.specs.Aligned.{Aligned, Covers, Holds}
+use Rattle.rules.specs.Largest.{Covered, Whole, Held}
+use Rattle.rules.specs.Rules.{Block, blk, granted, class, start, end, Sound, some, blockAt, firstFrom, orElse, freeIn, smallest, serving, contains, containing}
+use Rattle.rules.specs.declared.Found.{Found}
+use Rattle.rules.specs.declared.Found.the-variants.{At, Nowhere}
+use Rattle.rules.specs.Managed.{_∈_, Free, Within, Left, Lacks, Kept, Offers}
+use Rattle.rules.proofs.Aligned.{holds-class, held-covers, aligned-le}
+use Rattle.rules.proofs.Largest.{in-one, covered-self}
+use Rattle.rules.proofs.Lists.{both}
+use Rattle.rules.proofs.Members.{tidy, member-fits, Passes, some-passes, some-fails}
+use Rattle.rules.proofs.Unique.{left-is}
+use Rattle.rules.proofs.Restored.{offered, serving-offers, containing-offers}
+
+somewhere : {i : ℕ} → At i ≡ Nowhere → ⊥
+somewhere e = let z : _≡_ {A = ℕ} 0 1 = cc in omega arith
+
+-- ---- what is not found is not there
+
+not-first : (p : Block → Bool) (i : ℕ) (bs : List Block) {b : Block} → firstFrom p i bs ≡ Nowhere → b ∈ bs → p b ≡ false
+not-first p i [] e m = absurd (List·Memᴰ·not-nil m)
+not-first p i (x ∷ bs) {b} e m = go (p x) refl m (λ f n. not-first p (i + 1) bs f n)
+  where
+    go : (t : Bool) → p x ≡ t → b ∈ (x ∷ bs) → (firstFrom p (i + 1) bs ≡ Nowhere → b ∈ bs → p b ≡ false) → p b ≡ false
+    go true q m ih = absurd (somewhere (rw (q, firstFrom) at e))
+    go false q (List·Memᴰ·head h) ih = rw h q
+    go false q (List·Memᴰ·tail n) ih = ih (rw (q, firstFrom) at e) n
+
+none-serves : (n k i : ℕ) (bs : List Block) → smallest n k i bs ≡ Nowhere → (j t : ℕ) → Free bs j t → k ≤ j → j < k + n → ⊥
+none-serves zero k i bs e j t m l h = omega arith
+none-serves (suc n) k i bs e j t m l h = go (firstFrom (freeIn k) i bs) refl (none-serves n (suc k) i bs)
+  where
+    go : (f : Found) → firstFrom (freeIn k) i bs ≡ f → (smallest n (suc k) i bs ≡ Nowhere → (j t : ℕ) → Free bs j t → suc k ≤ j → j < suc k + n → ⊥) → ⊥
+    go (At o) q ih = somewhere (rw q at e)
+    go Nowhere q ih = side (eqb j k) refl
+      where
+        side : (b : Bool) → eqb j k ≡ b → ⊥
+        side true d = true≢false (sym d ∙ not-first (freeIn k) i bs q m)
+        side false d = ih (rw q at e) j t m (omega (arith, eqb-false j k d)) (omega arith)
+
+none-contains : (c run : ℕ) (bs : List Block) → containing c run bs ≡ Nowhere → Held (Free bs) c run → ⊥
+unfolding containing
+none-contains c run bs e h =
+    let y : contains c run (blk false (h .class) (h .start)) ≡ true =
+    rw (le-leb (h .start) run (h .holds .low), le-leb (run + 2 ^ c) (h .start + 2 ^ h .class) (h .holds .high)) refl in
+    true≢false (sym y ∙ not-first (contains c run) 0 bs e (h .member))
+
+-- ---- refusals for want of a block
+
+module _ {top : ℕ} (bs : List Block) (w : Kept top bs) where
+  -- a run that is wholly left lies in one free block, and the other way round
+  left-held : (c run : ℕ) → c ≤ top → Aligned c run → Whole (Left bs) c run → Held (Free bs) c run
+  left-held c run h a f = in-one top (Free bs) (tidy (w .sound)) (w .joined) c run h a (λ x d. left-is x (w .sound) .0 (f x d))
+
+  held-left : {c run : ℕ} → Held (Free bs) c run → Whole (Left bs) c run
+  held-left h x d = left-is x (w .sound) .1 (covered-self (h .member) x (held-covers (h .holds) d))
+
+  -- "refused for want of a block exactly when no wholly free run of its rounded size stands at a multiple of that size"
+  pub serving-refused : (c : ℕ) → c ≤ top → (serving top c bs ≡ Nowhere) ↔ ((run : ℕ) → Aligned c run → Whole (Left bs) c run → ⊥)
+  unfolding serving
+  serving-refused c l = (λ e run a f. none e (left-held c run l a f), λ n. go (serving top c bs) refl n)
+    where
+      none : serving top c bs ≡ Nowhere → {run : ℕ} → Held (Free bs) c run → ⊥
+      none e h = none-serves (suc top - c) c 0 bs e (h .class) (h .start) (h .member) (holds-class (h .holds)) (omega (arith, member-fits (w .sound) (h .member) .small))
+
+      go : (f : Found) → serving top c bs ≡ f → ((run : ℕ) → Aligned c run → Whole (Left bs) c run → ⊥) → serving top c bs ≡ Nowhere
+      go (At i) e n = let o = serving-offers c i bs (w .sound) e in absurd (n (start (blockAt i bs)) (o .aligned) (held-left (offered o)))
+      go Nowhere e n = e
+
+  -- each frame is left or not, and so a run that is not wholly left lacks a frame
+  left-or-not : (x : ℕ) → Left bs x ⊎ (Left bs x → ⊥)
+  left-or-not x = go (containing 0 x bs) refl
+    where
+      one : Aligned 0 x
+      one = record { multiple = omega arith }
+
+      go : (f : Found) → containing 0 x bs ≡ f → Left bs x ⊎ (Left bs x → ⊥)
+      go (At i) e = inl (held-left (offered (containing-offers 0 x i bs one e)) x (omega arith))
+      go Nowhere e = inr (λ f. none-contains 0 x bs e (left-held 0 x (omega arith) one (λ y c. let q : y ≡ x = omega arith in rw q f)))
+
+  lacks-or-not : (n run : ℕ) → ((x : ℕ) → Within run (run + n) x → Left bs x) ⊎ Lacks bs run (run + n)
+  lacks-or-not zero run = inl (λ x d. absurd (omega arith))
+  lacks-or-not (suc n) run = go (lacks-or-not n run) (left-or-not (run + n))
+    where
+      go : ((x : ℕ) → Within run (run + n) x → Left bs x) ⊎ Lacks bs run (run + n) → Left bs (run + n) ⊎ (Left bs (run + n) → ⊥)
+          → ((x : ℕ) → Within run (run + suc n) x → Left bs x) ⊎ Lacks bs run (run + suc n)
+      go (inr k) y = inr (record { frame = k .frame; within = omega arith; not-left = k .not-left })
+      go (inl f) (inr g) = inr (record { frame = run + n; within = omega arith; not-left = g })
+      go (inl f) (inl g) = inl (λ x d. side x d (decLt x (run + n)))
+        where
+          side : (x : ℕ) → Within run (run + suc n) x → Dec (x < run + n) → Left bs x
+          side x d (yes h) = f x (omega arith)
+          side x d (no h) = let q : x ≡ run + n = omega arith in rw q g
+
+  -- "or, with the start given and aligned, when a frame of that run is not free"
+  pub containing-refused : (c run : ℕ) → c ≤ top → Aligned c run → (containing c run bs ≡ Nowhere) ↔ Lacks bs run (run + 2 ^ c)
+  containing-refused c run l a = (λ e. search e (lacks-or-not (2 ^ c) run), λ k. go (containing c run bs) refl k)
+    where
+      search : containing c run bs ≡ Nowhere → ((x : ℕ) → Within run (run + 2 ^ c) x → Left bs x) ⊎ Lacks bs run (run + 2 ^ c) → Lacks bs run (run + 2 ^ c)
+      search e (inl f) = absurd (none-contains c run bs e (left-held c run l a (λ x d. f x (omega arith))))
+      search e (inr k) = k
+
+      go : (f : Found) → containing c run bs ≡ f → Lacks bs run (run + 2 ^ c) → containing c run bs ≡ Nowhere
+      go (At i) e k = absurd (k .not-left (held-left (offered (containing-offers c run i bs a e)) (k .frame) (omega (arith, k .within))))
+      go Nowhere e k = e
