@@ -9,6 +9,8 @@ pub mod Unique
 pub mod Restored
 pub mod Orders
 pub mod Refused
+pub mod Lengths
+pub mod Touching
 pub mod Lists
 pub mod Joining
 pub mod Adding
