@@ -1,13 +1,12 @@
 -- What adding a range leaves. Assumes nothing.
-use mathlib.Core.Path.{_≡_, refl, sym, ap, subst, _∙_}
-use mathlib.Core.Logic.{_⊎_, _↔_, inl, inr, ⊎-elim}
-use mathlib.Core.Bool.{Bool, true, false, true≢false}
+use mathlib.Core.Path.{_≡_, refl, sym, ap, _∙_}
+use mathlib.Core.Logic.{_⊎_, inl, inr, ⊎-elim, Iff·rfl}
+use mathlib.Core.Bool.{true, false, true≢false}
 use mathlib.Core.List.{List, [], _∷_}
 use Prim.Native.Nat.{ℕ, zero, suc, _+_, _-_, _%_, _^_, _≤_, _<_}
 use native.Mathlib.Omega.{arith}
 use native.Mathlib.Decide.{decLe, decLt}
-use lib.Pow.{pow-pos, pow-mono}
-use lib.Dec.{eqb}
+use lib.Pow.{pow-pos}
 use borrow.Author.Tests.{ne-eqb, lt-ltb}
 use Rattle.blocks.specs.Blocks.{pieceSize, sizeClass}
 use Rattle.blocks.specs.Laws.{Buddies, upper, lower, Piece}
@@ -19,7 +18,7 @@ use Rattle.rules.specs.Rules.{Block, blk, Sound, some, insertAll, cutFro
 use Rattle.rules.specs.Managed.{Free, Granted, Managed, Within, Touches, Leaves}
 use Rattle.rules.proofs.Adding.{Range, piece-fits, rest-range}
 use Rattle.rules.proofs.Members.{Fits, some-fails}
-use Rattle.rules.proofs.Putting.{put}
+use Rattle.rules.proofs.Putting.{managed-by, leaves-as, put}
 
 -- the size of a piece is that of its class
 piece-size : {top s n : ℕ} → Range top s n → 0 < n → pieceSize top s n ≡ 2 ^ sizeClass (pieceSize top s n)
@@ -38,7 +37,7 @@ nothing-cut : {top : ℕ} (s e : ℕ) (bs : List Block) → e ≤ s → Sound to
 nothing-cut s e bs h r = record {
   sound = r;
   frames = λ x. (inl, ⊎-elim (λ m. m) (λ w. absurd (omega arith)));
-  granted = λ k t. (λ m. m, λ m. m);
+  granted = λ k t. Iff·rfl;
   joined = λ p. p .0;
 }
 
@@ -55,7 +54,7 @@ module _ {top : ℕ} (s e p k : ℕ) (bs rest : List Block) (size : p ≡ 2 ^ k)
       old : (x : ℕ) → Covers k b x → s ≤ suc x → x ≤ e → (Within (s + p) e x → ⊥) → ⊥
       old x c f t n =
           ⊎-elim (λ o. apart (record { frame = x; managed = o; from = f; to = t })) n
-          (w .frames x .0 (record { granted = false; class = k; start = b; member = m; covers = c }))
+          (w .frames x .0 (managed-by m c))
 
       above : (s % 2 ^ suc k ≡ 0) → b ≡ s + 2 ^ k → Dec (s + 2 ^ suc k ≤ e) → ⊥
       above a q (yes h) = largest l a h
@@ -66,16 +65,11 @@ module _ {top : ℕ} (s e p k : ℕ) (bs rest : List Block) (size : p ≡ 2 ^ k)
       go (lower a q) = old (b + 2 ^ k - 1) (omega (arith, pow-pos k)) (omega arith) (omega arith) (λ d. omega (arith, pow-pos k))
 
   first-piece : Cuts top s e bs (insertAll (blk false k s ∷ []) rest)
-  first-piece = record {
-    sound = v .sound;
-    frames = λ x. (λ m. to x (v .frames x .0 m), λ m. v .frames x .1 (from x m (decLt x (s + p))));
-    granted = λ j t. (λ m. w .granted j t .0 (v .granted j t .0 m), λ m. v .granted j t .1 (w .granted j t .1 m));
-    joined = λ n. v .joined (w .joined (n .0, λ h t. n .1 (omega arith) (wider t)), piece-alone (n .1 (omega (arith, pow-pos k))));
-  }
+  first-piece =
+      leaves-as (λ x. (to x, λ m. from x m (decLt x (s + p)))) (w .granted)
+      (λ n. (w .joined (n .0, λ h t. n .1 (omega arith) (wider t)), piece-alone (n .1 (omega (arith, pow-pos k)))))
+      (put k s rest (w .sound) fits piece-clear)
     where
-      v : Leaves top (λ x. Managed rest x ⊎ Covers k s x) (Granted rest) (Joined top (Free rest) × ((b : ℕ) → k < top → Buddies k s b → Free rest k b → ⊥)) (insertAll (blk false k s ∷ []) rest)
-      v = put k s rest (w .sound) fits piece-clear
-
       wider : Touches (s + p) e bs → Touches s e bs
       wider t = record { frame = t .frame; managed = t .managed; from = omega arith; to = t .to }
 

@@ -9,17 +9,17 @@ use native.Mathlib.Nat.{eq-or-lt-of-le, le-refl, min-comm}
 use native.Mathlib.Decide.{decLt}
 use lib.Pow.{pow-pos}
 use lib.Dec.{leb, ltb}
-use lib.ListN.{length, take, drop}
+use lib.ListN.{take, drop}
 use Rattle.blocks.specs.Laws.{Buddies, upper, lower}
 use Rattle.rules.specs.Aligned.{Aligned, Covers, Holds, Meets}
 use Rattle.rules.specs.Largest.{Joined}
-use Rattle.rules.specs.Rules.{Block, blk, granted, class, start, Sound, none, next, towards, blockAt, halved}
+use Rattle.rules.specs.Rules.{Block, blk, granted, class, start, Sound, next, towards, blockAt, halved}
 use Rattle.rules.specs.Managed.{_∈_, Free, Granted, Is, Managed, Offers, Leaves}
-use Rattle.rules.proofs.Aligned.{nested, holds-class, holds-meets, lower-half, upper-half, buddies-comm}
+use Rattle.rules.proofs.Aligned.{nested, holds-class, holds-meets, held-covers, lower-half, upper-half, buddies-comm}
 use Rattle.rules.proofs.Lists.{Stands, stands, split-here}
 use Rattle.rules.proofs.Halving.{halve-low, halve-high, halve-done}
-use Rattle.rules.proofs.Members.{Fits, member-fits, member-low, below-member}
-use Rattle.rules.proofs.Putting.{managed-more, is-block, pair-aligned, pair-covers, joined-more}
+use Rattle.rules.proofs.Members.{is-block, same-block, marks-differ, Fits, member-low, below-member}
+use Rattle.rules.proofs.Putting.{managed-by, holder, managed-more, covers-same, pair-aligned, pair-covers, joined-more}
 
 -- ---- the blocks that a block of class j at t is halved into
 
@@ -31,33 +31,30 @@ record Halves (j t c run : ℕ) (ws : List Block) : Type 0 where
   smaller : (i u : ℕ) → Free ws i u → i < j
   joined : (top : ℕ) → Joined top (Free ws)
 
-free-or-granted : {k s j t : ℕ} → blk true j t ≡ blk false k s → ⊥
-free-or-granted e = let z : true ≡ false = cc in true≢false z
-
 only-run : (c run : ℕ) → Halves c run c run (blk true c run ∷ [])
 only-run c run = record {
   within = λ g i u m. let w = is-block (List·Memᴰ·eq-of-singleton m) in rw (w .class, w .start) (omega arith);
-  covered = λ x d. record { granted = true; class = c; start = run; member = List·Memᴰ·head refl; covers = d };
-  granted = λ i u. (λ m. is-block (List·Memᴰ·eq-of-singleton m), λ w. List·Memᴰ·head (same w));
-  smaller = λ i u m. absurd (free-or-granted (sym (List·Memᴰ·eq-of-singleton m)));
-  joined = λ top. record { never = λ l p x y. free-or-granted (sym (List·Memᴰ·eq-of-singleton x)) };
+  covered = λ x d. managed-by (List·Memᴰ·head refl) d;
+  granted = λ i u. (λ m. is-block (List·Memᴰ·eq-of-singleton m), λ w. List·Memᴰ·head (same-block w));
+  smaller = λ i u m. absurd (marks-differ (sym (List·Memᴰ·eq-of-singleton m)));
+  joined = λ top. record { never = λ l p x y. marks-differ (sym (List·Memᴰ·eq-of-singleton x)) };
 }
-  where
-    same : {i u : ℕ} → Is c run i u → blk true i u ≡ blk true c run
-    same w = cc
 
 pair-holds : {k s b i u : ℕ} → Buddies k s b → Holds k s i u → Holds (suc k) (min s b) i u
 pair-holds (upper a e) h = omega arith
 pair-holds (lower a e) h = omega arith
 
 -- one half at t is halved further, into vs; the other half, at o, is freed
-one-half : {i t o c run : ℕ} {vs ws : List Block} → Buddies i t o → ((y : Block) → y ∈ ws ↔ ((y ≡ blk false i o) ⊎ (y ∈ vs))) → Halves i t c run vs → Halves (suc i) (min t o) c run ws
+one-half : {i t o c run : ℕ} {vs ws : List Block} → Buddies i t o → ((y : Block) → y ∈ ws ↔ ((y ≡ blk false i o) ⊎ (y ∈ vs))) → Halves i t c run vs
+    → Halves (suc i) (min t o) c run ws
 one-half {i} {t} {o} {c} {run} {vs} {ws} p has w = record {
   within = λ g j u m. inside (has (blk g j u) .0 m);
-  covered = λ x d. ⊎-elim (λ l. managed-more (λ y m. has y .1 (inr m)) (w .covered x l)) (λ h. record { granted = false; class = i; start = o; member = has (blk false i o) .1 (inl refl); covers = h }) (pair-covers p .0 d);
-  granted = λ j u. (λ m. ⊎-elim (λ e. absurd (free-or-granted e)) (w .granted j u .0) (has (blk true j u) .0 m), λ e. has (blk true j u) .1 (inr (w .granted j u .1 e)));
+  covered = λ x d. ⊎-elim (λ l. managed-more (λ y m. has y .1 (inr m)) (w .covered x l)) (managed-by (has (blk false i o) .1 (inl refl))) (pair-covers p .0 d);
+  granted = λ j u.
+      (λ m. ⊎-elim (λ e. absurd (marks-differ e)) (w .granted j u .0) (has (blk true j u) .0 m), λ e. has (blk true j u) .1 (inr (w .granted j u .1 e)));
   smaller = λ j u m. ⊎-elim (λ e. omega (arith, is-block e .class)) (λ n. omega (arith, w .smaller j u n)) (has (blk false j u) .0 m);
-  joined = λ top. joined-more i o (w .joined top) (λ j u m. ⊎-elim (λ e. inl (is-block e)) inr (has (blk false j u) .0 m)) (λ b l q m. omega (arith, w .smaller i b m));
+  joined = λ top.
+      joined-more i o (λ j u m. ⊎-elim (λ e. inl (is-block e)) inr (has (blk false j u) .0 m)) (λ b l q m. omega (arith, w .smaller i b m)) (w .joined top);
 }
   where
     other : Holds (suc i) (min t o) i o
@@ -81,7 +78,8 @@ halving zero t c run a b h =
     let e : c ≡ 0 = omega (arith, holds-class h) in
     let q : t ≡ run = omega (arith, ap (λ (x : ℕ). 2 ^ x) e) in
     rw (q, ← e, halve-done c run run) (only-run c run)
-halving (suc i) t c run a b h = go (eq-or-lt-of-le (holds-class h)) (decLt run (t + 2 ^ i)) (halving i t c run (lower-half a) b) (halving i (t + 2 ^ i) c run (upper-half a) b)
+halving (suc i) t c run a b h =
+    go (eq-or-lt-of-le (holds-class h)) (decLt run (t + 2 ^ i)) (halving i t c run (lower-half a) b) (halving i (t + 2 ^ i) c run (upper-half a) b)
   where
     go : (c ≡ suc i) ⊎ (c < suc i) → Dec (run < t + 2 ^ i) → (Holds i t c run → Halves i t c run (towards i c run t))
         → (Holds i (t + 2 ^ i) c run → Halves i (t + 2 ^ i) c run (towards i c run (t + 2 ^ i))) → Halves (suc i) t c run (towards (suc i) c run t)
@@ -106,7 +104,8 @@ in-order : (j c run t : ℕ) {top f : ℕ} (ys : List Block) → f ≤ t → Fit
 unfolding towards
 in-order zero c run t ys l w r = next l (w .small) (w .aligned) (w .within) r
 in-order (suc i) c run t {top} {f} ys l w r =
-    go (leb c i) refl (ltb run (t + 2 ^ i)) refl (in-order i c run t (blk false i (t + 2 ^ i) ∷ ys) l lower-fits) (in-order i c run (t + 2 ^ i) ys (le-refl (t + 2 ^ i)) upper-fits)
+    go (leb c i) refl (ltb run (t + 2 ^ i)) refl (in-order i c run t (blk false i (t + 2 ^ i) ∷ ys) l lower-fits)
+    (in-order i c run (t + 2 ^ i) ys (le-refl (t + 2 ^ i)) upper-fits)
   where
     lower-fits : Fits top i t
     lower-fits = record { small = omega (arith, w .small); aligned = lower-half (w .aligned); within = omega (arith, w .within) }
@@ -128,17 +127,6 @@ in-order (suc i) c run t {top} {f} ys l w r =
 
 -- ---- in the list
 
-replaced : {top f : ℕ} (xs : List Block) {zs ws : List Block} → ((e : ℕ) → Sound top e zs → Sound top e ws) → Sound top f (xs ++ zs) → Sound top f (xs ++ ws)
-replaced {f} [] g r = g f r
-replaced (x ∷ xs) g (next l h a e r) = next l h a e (replaced xs g r)
-
-in-middle : (xs ws ys : List Block) (y : Block) → y ∈ (xs ++ (ws ++ ys)) ↔ ((y ∈ ws) ⊎ (y ∈ (xs ++ ys)))
-in-middle xs ws ys y = (λ m. ⊎-elim (λ n. inr (Memᴰ·append-left ys n)) (λ n. ⊎-elim inl (λ o. inr (Memᴰ·append-right xs o)) (List·Memᴰ·append-cases ws n)) (List·Memᴰ·append-cases xs m), from)
-  where
-    from : (y ∈ ws) ⊎ (y ∈ (xs ++ ys)) → y ∈ (xs ++ (ws ++ ys))
-    from (inl m) = Memᴰ·append-right xs (Memᴰ·append-left ys m)
-    from (inr m) = ⊎-elim (λ n. Memᴰ·append-left (ws ++ ys) n) (λ n. Memᴰ·append-right xs (Memᴰ·append-right ws n)) (List·Memᴰ·append-cases xs m)
-
 -- the buddy of a block lies in each aligned block of a higher class that the block lies in
 buddy-held : {j t k s b : ℕ} → Aligned j t → k < j → Holds j t k s → Buddies k s b → Holds j t k b
 buddy-held {j} {t} {k} {s} {b} a l h p = last p (nested a (pair-aligned p) l (met p))
@@ -151,47 +139,82 @@ buddy-held {j} {t} {k} {s} {b} a l h p = last p (nested a (pair-aligned p) l (me
     last (upper x e) w = omega arith
     last (lower x e) w = omega arith
 
--- a free block of class j at t between xs and ys is replaced by its halves
-module _ {top : ℕ} (c run j t : ℕ) (xs ys ws : List Block) (r : Sound top 0 (xs ++ (blk false j t ∷ ys))) (w : Halves j t c run ws) where
-  place : Stands top xs (blk false j t) ys
-  place = stands xs (blk false j t) ys r
-
-  -- no other block has a frame of it
-  others-apart : (g : Bool) (i u : ℕ) → blk g i u ∈ (xs ++ ys) → Meets j t i u → ⊥
-  others-apart g i u m c = ⊎-elim (λ n. omega (arith, below-member (place .before) n)) (λ n. omega (arith, member-low (place .after) n)) (List·Memᴰ·append-cases xs m)
-
-  replaced-leaves : Sound top 0 (xs ++ (ws ++ ys)) → Leaves top (Managed (xs ++ (blk false j t ∷ ys))) (λ k s. Is c run k s ⊎ Granted (xs ++ (blk false j t ∷ ys)) k s) (Joined top (Free (xs ++ (blk false j t ∷ ys)))) (xs ++ (ws ++ ys))
-  replaced-leaves q = record {
-    sound = q;
-    frames = λ x. (λ m. whole x (m .granted) (m .class) (m .start) (m .covers) (in-middle xs ws ys (blk (m .granted) (m .class) (m .start)) .0 (m .member)), λ m. halves x (m .granted) (m .class) (m .start) (m .covers) (in-middle xs (blk false j t ∷ []) ys (blk (m .granted) (m .class) (m .start)) .0 (m .member)));
-    granted = λ k s. (λ m. ⊎-elim (λ n. inl (w .granted k s .0 n)) (λ n. inr (old (blk true k s) n)) (in-middle xs ws ys (blk true k s) .0 m), ⊎-elim (λ e. in-middle xs ws ys (blk true k s) .1 (inl (w .granted k s .1 e))) (λ m. kept k s (in-middle xs (blk false j t ∷ []) ys (blk true k s) .0 m)));
-    joined = λ n. record { never = λ {k} {s} {b} l p x y. alone n k s b l p (in-middle xs ws ys (blk false k s) .0 x) (in-middle xs ws ys (blk false k b) .0 y) };
+-- a free block of class j at t is replaced by its halves ws; the rest of the list stays, and has no frame of it
+module _ {top : ℕ} {c run j t : ℕ} {bs after ws : List Block} (rest : List Block) (aligned : Aligned j t) (w : Halves j t c run ws)
+    (was : (y : Block) → y ∈ bs ↔ ((y ≡ blk false j t) ⊎ (y ∈ rest))) (now : (y : Block) → y ∈ after ↔ ((y ∈ ws) ⊎ (y ∈ rest)))
+    (apart : (g : Bool) (i u : ℕ) → blk g i u ∈ rest → Meets j t i u → ⊥) where
+  halves-leave : Sound top 0 after → Leaves top (Managed bs) (λ k s. Is c run k s ⊎ Granted bs k s) (Joined top (Free bs)) after
+  halves-leave r = record {
+    sound = r;
+    frames = λ x. (λ m. whole x m (now (holder m) .0 (m .member)), λ m. halves x m (was (holder m) .0 (m .member)));
+    granted = λ k s. (
+      λ m. ⊎-elim (λ n. inl (w .granted k s .0 n)) (λ n. inr (was (blk true k s) .1 (inr n))) (now (blk true k s) .0 m),
+      ⊎-elim (λ e. now (blk true k s) .1 (inl (w .granted k s .1 e))) (λ m. kept k s (was (blk true k s) .0 m)),
+    );
+    joined = λ n. record { never = λ {k} {s} {b} l p x y. alone n k s b l p (now (blk false k s) .0 x) (now (blk false k b) .0 y) };
   }
     where
-      old : (y : Block) → y ∈ (xs ++ ys) → y ∈ (xs ++ (blk false j t ∷ ys))
-      old y m = in-middle xs (blk false j t ∷ []) ys y .1 (inr m)
+      whole : (x : ℕ) (m : Managed after x) → (holder m ∈ ws) ⊎ (holder m ∈ rest) → Managed bs x
+      whole x m (inl n) = managed-by (was (blk false j t) .1 (inl refl)) (held-covers (w .within (m .granted) (m .class) (m .start) n) (m .covers))
+      whole x m (inr n) = managed-by (was (holder m) .1 (inr n)) (m .covers)
 
-      whole : (x : ℕ) (g : Bool) (k s : ℕ) → Covers k s x → (blk g k s ∈ ws) ⊎ (blk g k s ∈ (xs ++ ys)) → Managed (xs ++ (blk false j t ∷ ys)) x
-      whole x g k s d (inl m) = let h = w .within g k s m in record { granted = false; class = j; start = t; member = in-middle xs (blk false j t ∷ []) ys (blk false j t) .1 (inl (List·Memᴰ·head refl)); covers = omega arith }
-      whole x g k s d (inr m) = record { granted = g; class = k; start = s; member = old (blk g k s) m; covers = d }
+      halves : (x : ℕ) (m : Managed bs x) → (holder m ≡ blk false j t) ⊎ (holder m ∈ rest) → Managed after x
+      halves x m (inl e) = managed-more (λ y n. now y .1 (inl n)) (w .covered x (covers-same e (m .covers)))
+      halves x m (inr n) = managed-by (now (holder m) .1 (inr n)) (m .covers)
 
-      halves : (x : ℕ) (g : Bool) (k s : ℕ) → Covers k s x → (blk g k s ∈ (blk false j t ∷ [])) ⊎ (blk g k s ∈ (xs ++ ys)) → Managed (xs ++ (ws ++ ys)) x
-      halves x g k s d (inl m) = let i = is-block (List·Memᴰ·eq-of-singleton m) in managed-more (λ y n. in-middle xs ws ys y .1 (inl n)) (w .covered x (rw (sym (i .class), sym (i .start)) d))
-      halves x g k s d (inr m) = record { granted = g; class = k; start = s; member = in-middle xs ws ys (blk g k s) .1 (inr m); covers = d }
+      kept : (k s : ℕ) → (blk true k s ≡ blk false j t) ⊎ (blk true k s ∈ rest) → Granted after k s
+      kept k s (inl e) = absurd (marks-differ e)
+      kept k s (inr m) = now (blk true k s) .1 (inr m)
 
-      kept : (k s : ℕ) → (blk true k s ∈ (blk false j t ∷ [])) ⊎ (blk true k s ∈ (xs ++ ys)) → Granted (xs ++ (ws ++ ys)) k s
-      kept k s (inl m) = absurd (free-or-granted (List·Memᴰ·eq-of-singleton m))
-      kept k s (inr m) = in-middle xs ws ys (blk true k s) .1 (inr m)
+      -- a half has its buddy in the whole, and so not in the rest
+      inside : (k s b : ℕ) → Buddies k s b → Free ws k s → Free rest k b → ⊥
+      inside k s b p x y = apart false k b y (holds-meets (buddy-held aligned (w .smaller k s x) (w .within false k s x) p))
 
-      -- a half has its buddy in the whole, and so among the halves
-      inside : (k s b : ℕ) → Buddies k s b → Free ws k s → blk false k b ∈ (xs ++ ys) → ⊥
-      inside k s b p x y = others-apart false k b y (holds-meets (buddy-held (place .aligned) (w .smaller k s x) (w .within false k s x) p))
-
-      alone : Joined top (Free (xs ++ (blk false j t ∷ ys))) → (k s b : ℕ) → k < top → Buddies k s b → Free ws k s ⊎ Free (xs ++ ys) k s → Free ws k b ⊎ Free (xs ++ ys) k b → ⊥
+      alone : Joined top (Free bs) → (k s b : ℕ) → k < top → Buddies k s b → Free ws k s ⊎ Free rest k s → Free ws k b ⊎ Free rest k b → ⊥
       alone n k s b l p (inl x) (inl y) = w .joined top .never l p x y
       alone n k s b l p (inl x) (inr y) = inside k s b p x y
       alone n k s b l p (inr x) (inl y) = inside k b s (buddies-comm p) y x
-      alone n k s b l p (inr x) (inr y) = n .never l p (old (blk false k s) x) (old (blk false k b) y)
+      alone n k s b l p (inr x) (inr y) = n .never l p (was (blk false k s) .1 (inr x)) (was (blk false k b) .1 (inr y))
+
+-- ---- at its place
+
+in-middle : (xs ws ys : List Block) (y : Block) → y ∈ (xs ++ (ws ++ ys)) ↔ ((y ∈ ws) ⊎ (y ∈ (xs ++ ys)))
+in-middle xs ws ys y = (λ m. ⊎-elim (λ n. inr (Memᴰ·append-left ys n)) (λ n. to (List·Memᴰ·append-cases ws n)) (List·Memᴰ·append-cases xs m), from)
+  where
+    to : (y ∈ ws) ⊎ (y ∈ ys) → (y ∈ ws) ⊎ (y ∈ (xs ++ ys))
+    to (inl m) = inl m
+    to (inr m) = inr (Memᴰ·append-right xs m)
+
+    from : (y ∈ ws) ⊎ (y ∈ (xs ++ ys)) → y ∈ (xs ++ (ws ++ ys))
+    from (inl m) = Memᴰ·append-right xs (Memᴰ·append-left ys m)
+    from (inr m) = ⊎-elim (λ n. Memᴰ·append-left (ws ++ ys) n) (λ n. Memᴰ·append-right xs (Memᴰ·append-right ws n)) (List·Memᴰ·append-cases xs m)
+
+replaced : {top f : ℕ} (xs : List Block) {zs ws : List Block} → ((e : ℕ) → Sound top e zs → Sound top e ws) → Sound top f (xs ++ zs) → Sound top f (xs ++ ws)
+replaced {f} [] g r = g f r
+replaced (x ∷ xs) g (next l h a e r) = next l h a e (replaced xs g r)
+
+module _ {top : ℕ} (c run j t : ℕ) (xs ys : List Block) (r : Sound top 0 (xs ++ (blk false j t ∷ ys))) where
+  place : Stands top xs (blk false j t) ys
+  place = stands xs (blk false j t) ys r
+
+  middle-leaves : Aligned c run → Holds j t c run
+      → Leaves top (Managed (xs ++ (blk false j t ∷ ys))) (λ k s. Is c run k s ⊎ Granted (xs ++ (blk false j t ∷ ys)) k s)
+      (Joined top (Free (xs ++ (blk false j t ∷ ys)))) (xs ++ (towards j c run t ++ ys))
+  middle-leaves a h =
+      halves-leave (xs ++ ys) (place .aligned) (halving j t c run (place .aligned) a h) was (in-middle xs (towards j c run t) ys) apart (replaced xs (λ f q. fill f q) r)
+    where
+      was : (y : Block) → y ∈ (xs ++ (blk false j t ∷ ys)) ↔ ((y ≡ blk false j t) ⊎ (y ∈ (xs ++ ys)))
+      was y = (
+        λ m. ⊎-elim (λ n. inl (List·Memᴰ·eq-of-singleton n)) inr (in-middle xs (blk false j t ∷ []) ys y .0 m),
+        λ m. in-middle xs (blk false j t ∷ []) ys y .1 (⊎-elim (λ e. inl (List·Memᴰ·head e)) inr m),
+      )
+
+      apart : (g : Bool) (i u : ℕ) → blk g i u ∈ (xs ++ ys) → Meets j t i u → ⊥
+      apart g i u m d =
+          ⊎-elim (λ n. omega (arith, below-member (place .before) n)) (λ n. omega (arith, member-low (place .after) n)) (List·Memᴰ·append-cases xs m)
+
+      fill : (f : ℕ) → Sound top f (blk false j t ∷ ys) → Sound top f (towards j c run t ++ ys)
+      fill f (next l k b m q) = in-order j c run t ys l (record { small = k; aligned = b; within = m }) q
 
 -- the run is granted, every frame stays managed, and nothing is left to join where nothing was
 pub halved-leaves : {top : ℕ} (c run i : ℕ) (bs : List Block) → Sound top 0 bs → Offers c run i bs
@@ -199,19 +222,19 @@ pub halved-leaves : {top : ℕ} (c run i : ℕ) (bs : List Block) → Sound top 
 unfolding halved
 halved-leaves {top} c run i bs r o = go (blockAt i bs) refl (o .free) (o .holds)
   where
+    xs : List Block
+    xs = take i bs
+
+    ys : List Block
+    ys = drop (i + 1) bs
+
     go : (b : Block) → blockAt i bs ≡ b → granted b ≡ false → Holds (class b) (start b) c run
-        → Leaves top (Managed bs) (λ k s. Is c run k s ⊎ Granted bs k s) (Joined top (Free bs)) (take i bs ++ (towards (class (blockAt i bs)) c run (start (blockAt i bs)) ++ drop (i + 1) bs))
+        → Leaves top (Managed bs) (λ k s. Is c run k s ⊎ Granted bs k s) (Joined top (Free bs))
+        (take i bs ++ (towards (class (blockAt i bs)) c run (start (blockAt i bs)) ++ drop (i + 1) bs))
     go (blk true j t) e f h = absurd (true≢false f)
     go (blk false j t) e f h =
-        let xs : List Block = take i bs in
-        let ys : List Block = drop (i + 1) bs in
         let q : bs ≡ xs ++ (blk false j t ∷ ys) = split-here i bs (o .here) ∙ ap (λ (b : Block). xs ++ (b ∷ ys)) e in
-        let s : Sound top 0 (xs ++ (blk false j t ∷ ys)) = subst (Sound top 0) q r in
-        let v = stands xs (blk false j t) ys s in
-        let w = halving j t c run (v .aligned) (o .aligned) h in
-        let z : Sound top 0 (xs ++ (towards j c run t ++ ys)) = replaced xs (λ f y. fill f y) s in
-        rw e (subst (λ (l : List Block). Leaves top (Managed l) (λ k s. Is c run k s ⊎ Granted l k s) (Joined top (Free l)) (xs ++ (towards j c run t ++ ys))) (sym q)
-        (replaced-leaves c run j t xs ys (towards j c run t) s w z))
-      where
-        fill : (f : ℕ) → Sound top f (blk false j t ∷ drop (i + 1) bs) → Sound top f (towards j c run t ++ drop (i + 1) bs)
-        fill f (next l k a m y) = in-order j c run t (drop (i + 1) bs) l (record { small = k; aligned = a; within = m }) y
+        rw e
+        (subst
+        (λ (l : List Block). Leaves top (Managed l) (λ k s. Is c run k s ⊎ Granted l k s) (Joined top (Free l)) (xs ++ (towards j c run t ++ ys)))
+        (sym q) (middle-leaves c run j t xs ys (subst (Sound top 0) q r) (o .aligned) h))

@@ -1,19 +1,31 @@
 -- The members of a list of blocks: what a sound list says of them, and which a list has after one is put in or taken out. Assumes nothing.
 use mathlib.Core.Path.{_≡_, refl, sym, ap, ap₂, _∙_}
 use mathlib.Core.Logic.{_⊎_, _↔_, inl, inr, ⊎-elim}
-use mathlib.Core.Bool.{Bool, true, false, true≢false}
+use mathlib.Core.Bool.{Bool, true, false, true≢false, or-true}
 use mathlib.Core.List.{List, [], _∷_, List·Memᴰ·head, List·Memᴰ·tail, List·Memᴰ·not-nil, List·Memᴰ·cases-cons}
-use Prim.Native.Nat.{ℕ, suc, _+_, _^_, _≤_, _<_}
+use Prim.Native.Nat.{ℕ, _+_, _^_, _≤_, _<_}
 use native.Mathlib.Omega.{arith}
 use native.Mathlib.Nat.{lt-of-not-le}
 use lib.Pow.{pow-pos}
 use lib.Dec.{ltb}
 use borrow.Author.Tests.{ltb-true, ltb-false}
-use Rattle.rules.specs.Aligned.{Aligned, Covers, Meets}
+use Rattle.rules.specs.Aligned.{Aligned, Meets}
 use Rattle.rules.specs.Largest.{Tidy}
 use Rattle.rules.specs.Rules.{Block, blk, start, Sound, none, next, some, without, insert}
-use Rattle.rules.specs.Managed.{_∈_, Free, Managed}
+use Rattle.rules.specs.Managed.{_∈_, Free, Is}
 use Rattle.rules.proofs.Lists.{Below, and-below}
+
+-- ---- equal blocks
+
+pub is-block : {g h : Bool} {k s j t : ℕ} → blk h j t ≡ blk g k s → Is k s j t
+is-block e = record { class = cc; start = cc }
+
+pub same-block : {g : Bool} {k s j t : ℕ} → Is k s j t → blk g j t ≡ blk g k s
+same-block i = cc
+
+-- no block is both granted and free
+pub marks-differ : {k s j t : ℕ} → blk true j t ≡ blk false k s → ⊥
+marks-differ e = let z : true ≡ false = cc in true≢false z
 
 -- ---- a sound list
 
@@ -44,7 +56,8 @@ member-fits {top} {k} {s} (next {k = j} {s = t} l h a e r) (List·Memᴰ·head q
 member-fits (next l h a e r) (List·Memᴰ·tail m) = member-fits r m
 
 -- two of its blocks with a frame in common are one
-pub members-apart : {top f : ℕ} {bs : List Block} {g h : Bool} {j t k s : ℕ} → Sound top f bs → blk g j t ∈ bs → blk h k s ∈ bs → Meets j t k s → blk g j t ≡ blk h k s
+pub members-apart : {top f : ℕ} {bs : List Block} {g h : Bool} {j t k s : ℕ} → Sound top f bs → blk g j t ∈ bs → blk h k s ∈ bs → Meets j t k s
+    → blk g j t ≡ blk h k s
 members-apart none a b m = absurd (List·Memᴰ·not-nil a)
 members-apart (next l h a e r) (List·Memᴰ·head p) (List·Memᴰ·head q) m = p ∙ sym q
 members-apart {j} {t} (next {k = n} {s = u} l h a e r) (List·Memᴰ·head p) (List·Memᴰ·tail y) m =
@@ -58,10 +71,11 @@ members-apart {k} {s} (next {k = n} {s = u} l h a e r) (List·Memᴰ·tail x) (L
 members-apart (next l h a e r) (List·Memᴰ·tail x) (List·Memᴰ·tail y) m = members-apart r x y m
 
 pub tidy : {top f : ℕ} {bs : List Block} → Sound top f bs → Tidy top (Free bs)
-tidy r = record { small = λ b. member-fits r b .small; aligned = λ b. member-fits r b .aligned; apart = λ a b m. parts (members-apart r a b m) }
-  where
-    parts : {j t k s : ℕ} → blk false j t ≡ blk false k s → (j ≡ k) × (t ≡ s)
-    parts e = ((cc), (cc))
+tidy r = record {
+  small = λ b. member-fits r b .small;
+  aligned = λ b. member-fits r b .aligned;
+  apart = λ a b m. let i = is-block (members-apart r a b m) in (i .class, i .start);
+}
 
 -- ---- the order of a sound list is that of its blocks: two sound lists with the same members are the same list
 
@@ -114,6 +128,10 @@ some-fails p {bs = x ∷ bs} {b} e m = go (p x) refl m (λ h. some-fails p {bs =
     go true q m ih = absurd (true≢false (rw q at e))
     go false q (List·Memᴰ·head h) ih = rw h q
     go false q (List·Memᴰ·tail n) ih = ih (rw q at e) n
+
+pub some-member : (p : Block → Bool) {bs : List Block} {b : Block} → b ∈ bs → p b ≡ true → some p bs ≡ true
+some-member p (List·Memᴰ·head {x} {xs} h) e = let q : p x ≡ true = ap p (sym h) ∙ e in rw q refl
+some-member p (List·Memᴰ·tail {x} {xs} m) e = rw (some-member p m e) (or-true (p x))
 
 -- ---- one block more
 

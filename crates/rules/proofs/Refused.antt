@@ -1,25 +1,22 @@
 -- A request finds no block exactly when no run of its class is wholly left, or the run that it names is not. Assumes nothing.
 use mathlib.Core.Path.{_≡_, refl, sym, _∙_}
-use mathlib.Core.Logic.{_⊎_, _↔_, inl, inr, ⊎-elim}
-use mathlib.Core.Bool.{Bool, true, false, not, _&&_, true≢false}
+use mathlib.Core.Logic.{_⊎_, _↔_, inl, inr}
+use mathlib.Core.Bool.{Bool, true, false, true≢false}
 use mathlib.Core.List.{List, [], _∷_, List·Memᴰ·head, List·Memᴰ·tail, List·Memᴰ·not-nil}
 use Prim.Native.Nat.{ℕ, zero, suc, _+_, _-_, _^_, _≤_, _<_}
 use native.Mathlib.Omega.{arith}
 use native.Mathlib.Decide.{decLt}
-use lib.Pow.{pow-pos}
-use lib.Dec.{eqb, leb, ltb}
-use lib.ListN.{length}
-use borrow.Author.Tests.{leb-true, ltb-true, not-true, le-leb, lt-ltb, eq-eqb, eqb-false}
-use Rattle.rules.specs.Aligned.{Aligned, Covers, Holds}
-use Rattle.rules.specs.Largest.{Covered, Whole, Held}
-use Rattle.rules.specs.Rules.{Block, blk, granted, class, start, end, Sound, some, blockAt, firstFrom, orElse, freeIn, smallest, serving, contains, containing}
+use lib.Dec.{eqb}
+use borrow.Author.Tests.{le-leb, eqb-false}
+use Rattle.rules.specs.Aligned.{Aligned}
+use Rattle.rules.specs.Largest.{Whole, Held}
+use Rattle.rules.specs.Rules.{Block, blk, class, start, blockAt, firstFrom, freeIn, smallest, serving, contains, containing}
 use Rattle.rules.specs.declared.Found.{Found}
 use Rattle.rules.specs.declared.Found.the-variants.{At, Nowhere}
-use Rattle.rules.specs.Managed.{_∈_, Free, Within, Left, Lacks, Kept, Offers}
-use Rattle.rules.proofs.Aligned.{holds-class, held-covers, aligned-le}
+use Rattle.rules.specs.Managed.{_∈_, Free, Within, Left, Lacks, Kept}
+use Rattle.rules.proofs.Aligned.{holds-class, held-covers}
 use Rattle.rules.proofs.Largest.{in-one, covered-self}
-use Rattle.rules.proofs.Lists.{both}
-use Rattle.rules.proofs.Members.{tidy, member-fits, Passes, some-passes, some-fails}
+use Rattle.rules.proofs.Members.{tidy, member-fits}
 use Rattle.rules.proofs.Unique.{left-is}
 use Rattle.rules.proofs.Restored.{offered, serving-offers, containing-offers}
 

@@ -1,17 +1,19 @@
 -- Where two ranges touch, the free blocks need not be the largest: no law can do without the premise on ranges. Assumes nothing.
-use mathlib.Core.Path.{_≡_, refl, sym, subst}
+use mathlib.Core.Path.{_≡_, refl}
 use mathlib.Core.Logic.{⊎-elim}
-use mathlib.Core.Bool.{true, false, true≢false}
+use mathlib.Core.Bool.{false}
 use mathlib.Core.List.{List, [], _∷_, List·Memᴰ·head, List·Memᴰ·tail, List·Memᴰ·eq-of-singleton, List·Memᴰ·cases-cons}
-use Prim.Native.Nat.{ℕ, _≤_, _<_}
+use Prim.Native.Nat.{ℕ, _<_}
 use native.Mathlib.Omega.{arith}
 use native.Mathlib.Decide.{decLt}
 use lib.Count.{trailingZeros}
 use Rattle.blocks.specs.Blocks.{pieceSize, lowestOrTop, lowestBit, prevPowerOfTwo, largestPower, sizeOf, sizeClass}
 use Rattle.rules.specs.Aligned.{Covers}
-use Rattle.rules.specs.Largest.{Covered, Largest}
+use Rattle.rules.specs.Largest.{Largest}
 use Rattle.rules.specs.Rules.{Block, blk, cutFrom, cut, added}
-use Rattle.rules.specs.Managed.{Free, Granted, Managed, Left}
+use Rattle.rules.specs.Managed.{Free, Managed, Left}
+use Rattle.rules.proofs.Members.{marks-differ}
+use Rattle.rules.proofs.Putting.{managed-by}
 
 -- [0, 1), then [1, 2): two free blocks of one frame
 abbrev pub touching : List Block
@@ -22,14 +24,11 @@ unfolding trailingZeros sizeOf sizeClass largestPower prevPowerOfTwo lowestBit l
 not-joined = refl
 
 both-left : (x : ℕ) → x < 2 → Left touching x
-both-left x h = rw not-joined (record { managed = one (decLt x 1); not-granted = λ g. ⊎-elim free (λ m. free (List·Memᴰ·eq-of-singleton m)) (List·Memᴰ·cases-cons (g .member)) })
+both-left x h = rw not-joined (record { managed = one (decLt x 1); not-granted = λ g. ⊎-elim marks-differ (λ m. marks-differ (List·Memᴰ·eq-of-singleton m)) (List·Memᴰ·cases-cons (g .member)) })
   where
-    free : {k s j t : ℕ} → blk true k s ≡ blk false j t → ⊥
-    free e = let z : true ≡ false = cc in true≢false z
-
     one : Dec (x < 1) → Managed (blk false 0 0 ∷ blk false 0 1 ∷ []) x
-    one (yes l) = record { granted = false; class = 0; start = 0; member = List·Memᴰ·head refl; covers = omega arith }
-    one (no l) = record { granted = false; class = 0; start = 1; member = List·Memᴰ·tail (List·Memᴰ·head refl); covers = omega arith }
+    one (yes l) = let c : Covers 0 0 x = omega arith in managed-by (List·Memᴰ·head refl) c
+    one (no l) = let c : Covers 0 1 x = omega arith in managed-by (List·Memᴰ·tail (List·Memᴰ·head refl)) c
 
 -- the block of class 1 at 0 is wholly left, so that the free block of class 0 there is no largest one
 pub not-largest : Free touching 0 0 × (Largest 32 (Left touching) 0 0 → ⊥)

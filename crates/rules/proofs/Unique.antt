@@ -1,16 +1,17 @@
 -- Frames and grants determine a list of which nothing is left to join: its free blocks are the largest of the frames left. Assumes nothing.
-use mathlib.Core.Path.{_≡_, refl, sym}
-use mathlib.Core.Logic.{_⊎_, _↔_, inl, inr}
-use mathlib.Core.Bool.{Bool, true, false, true≢false}
+use mathlib.Core.Path.{_≡_}
+use mathlib.Core.Logic.{_↔_}
+use mathlib.Core.Bool.{Bool, true, false}
 use mathlib.Core.List.{List}
 use Prim.Native.Nat.{ℕ}
 use Rattle.rules.specs.Aligned.{Covers}
-use Rattle.rules.specs.Largest.{Covered, Largest, Tidy, Joined}
+use Rattle.rules.specs.Largest.{Covered, Largest}
 use Rattle.rules.specs.Rules.{Block, blk, Sound}
-use Rattle.rules.specs.Managed.{_∈_, Free, Granted, Managed, Left, Kept, Same}
+use Rattle.rules.specs.Managed.{_∈_, Free, Granted, Left, Kept, Same}
 use Rattle.rules.proofs.Aligned.{meets-at}
 use Rattle.rules.proofs.Largest.{largest}
-use Rattle.rules.proofs.Members.{members-apart, tidy, same-members}
+use Rattle.rules.proofs.Members.{marks-differ, members-apart, tidy, same-members}
+use Rattle.rules.proofs.Putting.{managed-by}
 
 -- ---- the frames left are those of the free blocks
 
@@ -21,13 +22,10 @@ left-is {top} {bs} x r = (λ l. pick (l .managed .granted) (l .managed .class) (
     pick false k s m c n = record { class = k; start = s; member = m; covers = c }
     pick true k s m c n = absurd (n (record { class = k; start = s; member = m; covers = c }))
 
-    apart : {k s j t : ℕ} → blk false k s ≡ blk true j t → ⊥
-    apart e = let z : true ≡ false = cc in true≢false z
-
     from : Covered (Free bs) x → Left bs x
     from f = record {
-      managed = record { granted = false; class = f .class; start = f .start; member = f .member; covers = f .covers };
-      not-granted = λ g. apart (members-apart r (f .member) (g .member) (meets-at (f .covers) (g .covers)));
+      managed = managed-by (f .member) (f .covers);
+      not-granted = λ g. marks-differ (members-apart r (g .member) (f .member) (meets-at (g .covers) (f .covers)));
     }
 
 -- ---- largest blocks of the same frames
