@@ -1,5 +1,5 @@
 -- What adding a range leaves. Assumes nothing.
-use mathlib.Core.Path.{_≡_, refl, sym, ap, _∙_}
+use mathlib.Core.Path.{_≡_, refl, sym, _∙_}
 use mathlib.Core.Logic.{_⊎_, inl, inr, ⊎-elim, Iff·rfl}
 use mathlib.Core.Bool.{true, false, true≢false}
 use mathlib.Core.List.{List, [], _∷_}
@@ -11,23 +11,13 @@ use borrow.Author.Tests.{ne-eqb, lt-ltb}
 use Rattle.blocks.specs.Blocks.{pieceSize, sizeClass}
 use Rattle.blocks.specs.Laws.{Buddies, upper, lower, Piece}
 use Rattle.blocks.proofs.Powers.{exp-le}
-use Rattle.blocks.proofs.Rounding.{size-class}
 use Rattle.rules.specs.Aligned.{Covers}
 use Rattle.rules.specs.Largest.{Joined}
 use Rattle.rules.specs.Rules.{Block, blk, Sound, some, insertAll, cutFrom, cut, added, overlaps}
 use Rattle.rules.specs.Managed.{Free, Granted, Managed, Within, Touches, Leaves}
-use Rattle.rules.proofs.Adding.{Range, piece-fits, rest-range}
+use Rattle.rules.proofs.Pieces.{Range, piece-fits, rest-range, piece-size}
 use Rattle.rules.proofs.Members.{Fits, some-fails}
 use Rattle.rules.proofs.Putting.{managed-by, leaves-as, put}
-
--- the size of a piece is that of its class
-piece-size : {top s n : ℕ} → Range top s n → 0 < n → pieceSize top s n ≡ 2 ^ sizeClass (pieceSize top s n)
-piece-size {top} {s} {n} r h =
-    let w = piece-fits r h in
-    let c : ℕ = w .power .class in
-    let l : c ≤ top = exp-le c top (omega (arith, w .power .is, w .small, pow-pos top)) in
-    let d : sizeClass (pieceSize top s n) ≡ c = ap sizeClass (w .power .is) ∙ size-class c (omega (arith, r .order)) in
-    w .power .is ∙ ap (λ (x : ℕ). 2 ^ x) (sym d)
 
 -- what cutting [s, e) leaves of a list that has no frame of it
 abbrev Cuts : ℕ → ℕ → ℕ → List Block → List Block → Type 0

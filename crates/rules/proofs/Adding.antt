@@ -7,21 +7,10 @@ use native.Mathlib.Omega.{arith}
 use lib.Dec.{eqb, ltb}
 use borrow.Author.Tests.{ne-eqb, lt-ltb, le-ltb}
 use Rattle.blocks.specs.Blocks.{pieceSize, sizeClass}
-use Rattle.blocks.specs.Laws.{Piece}
-use Rattle.blocks.proofs.Pieces as pieces
 use Rattle.rules.specs.Rules.{Block, blk, start, end, some, insert, insertAll, cutFrom, cut, added, overlaps}
+pub use Rattle.rules.proofs.Pieces.{Range, rest-range}
+use Rattle.rules.proofs.Pieces.{piece-fits}
 use Rattle.rules.proofs.Lists.{Below, none-below, and-below, Above, none-above, and-above, above-le, below-le, Misses, none-misses, and-misses, some-misses, misses-append, insert-at}
-
--- a range that a table may hold: n frames from s on, with the top block of class top
-pub record Range (top s n : ℕ) : Type 0 where
-  pub order : top ≤ 32
-  pub within : s + n ≤ 2 ^ 32
-
-pub piece-fits : {top s n : ℕ} → Range top s n → 0 < n → Piece top s n (pieceSize top s n)
-piece-fits {top} {s} {n} r p = pieces.piece top s n (r .order) (omega (arith, r .within)) p (omega (arith, r .within))
-
-pub rest-range : {top s n : ℕ} → Range top s n → 0 < n → Range top (s + pieceSize top s n) (n - pieceSize top s n)
-rest-range {top} {s} {n} r p = let w = piece-fits r p in record { order = r .order; within = omega (arith, r .within, w .within) }
 
 -- ---- the pieces one by one
 

@@ -1,8 +1,10 @@
 pub mod Aligned
 pub mod Largest
+pub mod Best
+pub mod Pieces
 pub mod Members
 pub mod Putting
-pub mod Released
+pub mod Freed
 pub mod Added
 pub mod Halved
 pub mod Unique

@@ -3,15 +3,16 @@ use mathlib.Core.Path.{_≡_, refl, sym, ap, ap₂, _∙_}
 use mathlib.Core.Logic.{_⊎_, _↔_, inl, inr, ⊎-elim}
 use mathlib.Core.Bool.{Bool, true, false, true≢false, or-true}
 use mathlib.Core.List.{List, [], _∷_, List·Memᴰ·head, List·Memᴰ·tail, List·Memᴰ·not-nil, List·Memᴰ·cases-cons}
-use Prim.Native.Nat.{ℕ, _+_, _^_, _≤_, _<_}
+use Prim.Native.Nat.{ℕ, zero, suc, _+_, _^_, _≤_, _<_}
 use native.Mathlib.Omega.{arith}
 use native.Mathlib.Nat.{lt-of-not-le}
 use lib.Pow.{pow-pos}
 use lib.Dec.{ltb}
+use lib.ListN.{length}
 use borrow.Author.Tests.{ltb-true, ltb-false}
 use Rattle.rules.specs.Aligned.{Aligned, Meets}
 use Rattle.rules.specs.Largest.{Tidy}
-use Rattle.rules.specs.Rules.{Block, blk, start, Sound, none, next, some, without, insert}
+use Rattle.rules.specs.Rules.{Block, blk, start, Sound, none, next, some, without, insert, blockAt}
 use Rattle.rules.specs.Managed.{_∈_, Free, Is}
 use Rattle.rules.proofs.Lists.{Below, and-below}
 
@@ -26,6 +27,12 @@ same-block i = cc
 -- no block is both granted and free
 pub marks-differ : {k s j t : ℕ} → blk true j t ≡ blk false k s → ⊥
 marks-differ e = let z : true ≡ false = cc in true≢false z
+
+-- the block at a place is a member
+pub at-place : (i : ℕ) (bs : List Block) → i < length bs → blockAt i bs ∈ bs
+at-place i [] h = absurd (omega arith)
+at-place zero (b ∷ bs) h = List·Memᴰ·head refl
+at-place (suc i) (b ∷ bs) h = List·Memᴰ·tail (at-place i bs (omega arith))
 
 -- ---- a sound list
 

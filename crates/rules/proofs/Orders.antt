@@ -9,7 +9,7 @@ use Rattle.rules.specs.Rules.{Block, blk, granted, Sound, isGranted, rel
 use Rattle.rules.specs.Managed.{_∈_, Free, Granted, Is, Managed, Kept, Leaves, Releases, no-more, and-then, Distinct, and-once}
 use Rattle.rules.proofs.Members.{is-block, same-block}
 use Rattle.rules.proofs.Putting.{leaves-as, leaves-kept, knows-granted, known}
-use Rattle.rules.proofs.Released.{released-leaves}
+use Rattle.rules.proofs.Freed.{released-leaves}
 use Rattle.rules.proofs.Unique.{unique}
 
 -- the blocks gs are granted in bs
@@ -18,15 +18,15 @@ AllGranted gs bs = (b : Block) → b ∈ gs → (b ∈ bs) × (granted b ≡ tru
 
 module _ {top : ℕ} (order : top ≤ 32) where
   -- what releasing gs leaves: they are no longer granted, and every frame stays managed
-  abbrev Freed : List Block → List Block → List Block → Type 0
-  Freed gs bs after = Leaves top (Managed bs) (λ k s. Granted bs k s × (Granted gs k s → ⊥)) (Joined top (Free bs)) after
+  abbrev Released : List Block → List Block → List Block → Type 0
+  Released gs bs after = Leaves top (Managed bs) (λ k s. Granted bs k s × (Granted gs k s → ⊥)) (Joined top (Free bs)) after
 
-  pub releases-leave : {gs bs after : List Block} → Sound top 0 bs → Releases top gs bs after → Freed gs bs after
+  pub releases-leave : {gs bs after : List Block} → Sound top 0 bs → Releases top gs bs after → Released gs bs after
   releases-leave r no-more = record { sound = r; frames = λ x. Iff·rfl; granted = λ k s. (λ m. (m, λ n. List·Memᴰ·not-nil n), λ m. m .0); joined = λ n. n }
   releases-leave {bs} {after} r (and-then {k} {s} {gs} e rest) = go (released-leaves order k s bs r e) (λ q. releases-leave q rest)
     where
       go : Leaves top (Managed bs) (λ j t. Granted bs j t × (Is k s j t → ⊥)) (Joined top (Free bs)) (released top k s bs)
-          → (Sound top 0 (released top k s bs) → Freed gs (released top k s bs) after) → Freed (blk true k s ∷ gs) bs after
+          → (Sound top 0 (released top k s bs) → Released gs (released top k s bs) after) → Released (blk true k s ∷ gs) bs after
       go v ih = leaves-as (v .frames) (λ j t. (to j t, from j t)) (v .joined) (ih (v .sound))
         where
           to : (j t : ℕ) → Granted (released top k s bs) j t × (Granted gs j t → ⊥) → Granted bs j t × (Granted (blk true k s ∷ gs) j t → ⊥)
@@ -72,10 +72,10 @@ module _ {top : ℕ} (order : top ≤ 32) where
     granted = λ k s. Iff·trans (u .granted k s) (Iff·symm (v .granted k s));
   })
     where
-      u : Freed hs bs after
+      u : Released hs bs after
       u = leaves-as (λ x. Iff·rfl) (λ k s. (λ m. (m .0, λ y. m .1 (same k s .1 y)), λ m. (m .0, λ y. m .1 (same k s .0 y)))) (λ n. n) (releases-leave (w .sound) one)
 
-      v : Freed hs bs last
+      v : Released hs bs last
       v = releases-leave (w .sound) other
 
   -- "releasing several grants, each once, ends in the same words in every order"

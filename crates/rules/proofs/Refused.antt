@@ -1,38 +1,26 @@
 -- A request finds no block exactly when no run of its class is wholly left, or the run that it names is not. Assumes nothing.
 use mathlib.Core.Path.{_≡_, refl, sym, _∙_}
 use mathlib.Core.Logic.{_⊎_, _↔_, inl, inr}
-use mathlib.Core.Bool.{Bool, true, false, true≢false}
-use mathlib.Core.List.{List, [], _∷_, List·Memᴰ·head, List·Memᴰ·tail, List·Memᴰ·not-nil}
+use mathlib.Core.Bool.{true, false, true≢false}
+use mathlib.Core.List.{List}
 use Prim.Native.Nat.{ℕ, zero, suc, _+_, _-_, _^_, _≤_, _<_}
 use native.Mathlib.Omega.{arith}
 use native.Mathlib.Decide.{decLt}
-use lib.Dec.{eqb}
-use borrow.Author.Tests.{le-leb, eqb-false}
+use borrow.Author.Tests.{le-leb}
 use Rattle.rules.specs.Aligned.{Aligned}
 use Rattle.rules.specs.Largest.{Whole, Held}
 use Rattle.rules.specs.Rules.{Block, blk, class, start, blockAt, firstFrom, freeIn, smallest, serving, contains, containing}
 use Rattle.rules.specs.declared.Found.{Found}
 use Rattle.rules.specs.declared.Found.the-variants.{At, Nowhere}
-use Rattle.rules.specs.Managed.{_∈_, Free, Within, Left, Lacks, Kept}
+use Rattle.rules.specs.Managed.{Free, Within, Left, Lacks, Kept}
 use Rattle.rules.proofs.Aligned.{holds-class, held-covers}
 use Rattle.rules.proofs.Largest.{in-one, covered-self}
 use Rattle.rules.proofs.Members.{tidy, member-fits}
+use Rattle.rules.proofs.Best.{somewhere, not-first, higher}
 use Rattle.rules.proofs.Unique.{left-is}
 use Rattle.rules.proofs.Restored.{offered, serving-offers, containing-offers}
 
-somewhere : {i : ℕ} → At i ≡ Nowhere → ⊥
-somewhere e = let z : _≡_ {A = ℕ} 0 1 = cc in omega arith
-
 -- ---- what is not found is not there
-
-not-first : (p : Block → Bool) (i : ℕ) (bs : List Block) {b : Block} → firstFrom p i bs ≡ Nowhere → b ∈ bs → p b ≡ false
-not-first p i [] e m = absurd (List·Memᴰ·not-nil m)
-not-first p i (x ∷ bs) {b} e m = go (p x) refl m (λ f n. not-first p (i + 1) bs f n)
-  where
-    go : (t : Bool) → p x ≡ t → b ∈ (x ∷ bs) → (firstFrom p (i + 1) bs ≡ Nowhere → b ∈ bs → p b ≡ false) → p b ≡ false
-    go true q m ih = absurd (somewhere (rw (q, firstFrom) at e))
-    go false q (List·Memᴰ·head h) ih = rw h q
-    go false q (List·Memᴰ·tail n) ih = ih (rw (q, firstFrom) at e) n
 
 none-serves : (n k i : ℕ) (bs : List Block) → smallest n k i bs ≡ Nowhere → (j t : ℕ) → Free bs j t → k ≤ j → j < k + n → ⊥
 none-serves zero k i bs e j t m l h = omega arith
@@ -40,11 +28,7 @@ none-serves (suc n) k i bs e j t m l h = go (firstFrom (freeIn k) i bs) refl (no
   where
     go : (f : Found) → firstFrom (freeIn k) i bs ≡ f → (smallest n (suc k) i bs ≡ Nowhere → (j t : ℕ) → Free bs j t → suc k ≤ j → j < suc k + n → ⊥) → ⊥
     go (At o) q ih = somewhere (rw q at e)
-    go Nowhere q ih = side (eqb j k) refl
-      where
-        side : (b : Bool) → eqb j k ≡ b → ⊥
-        side true d = true≢false (sym d ∙ not-first (freeIn k) i bs q m)
-        side false d = ih (rw q at e) j t m (omega (arith, eqb-false j k d)) (omega arith)
+    go Nowhere q ih = ih (rw q at e) j t m (higher k i bs q m l) (omega arith)
 
 none-contains : (c run : ℕ) (bs : List Block) → containing c run bs ≡ Nowhere → Held (Free bs) c run → ⊥
 unfolding containing

@@ -2,8 +2,8 @@
 use mathlib.Core.Path.{_≡_, refl, subst}
 use mathlib.Core.Logic.{_⊎_, inl, inr, ⊎-elim}
 use mathlib.Core.Bool.{true, false, not, _&&_, true≢false}
-use mathlib.Core.List.{List, [], _∷_, List·Memᴰ·head, List·Memᴰ·tail}
-use Prim.Native.Nat.{ℕ, zero, suc, _+_, _-_, _^_, _≤_, _<_}
+use mathlib.Core.List.{List}
+use Prim.Native.Nat.{ℕ, suc, _+_, _-_, _^_, _≤_, _<_}
 use native.Mathlib.Omega.{arith}
 use native.Mathlib.Nat.{le-refl}
 use lib.Pow.{pow-mono}
@@ -17,10 +17,11 @@ use Rattle.rules.specs.declared.Found.the-variants.{At}
 use Rattle.rules.specs.Managed.{_∈_, Free, Granted, Is, Managed, Kept, Offers, Leaves}
 use Rattle.rules.proofs.Aligned.{aligned-le, holds-meets}
 use Rattle.rules.proofs.Lists.{both, stands-at}
-use Rattle.rules.proofs.Serving.{serves, first-at}
-use Rattle.rules.proofs.Members.{same-block, marks-differ, members-apart}
+use Rattle.rules.proofs.Best.{first-at}
+use Rattle.rules.proofs.Serving.{serves}
+use Rattle.rules.proofs.Members.{at-place, same-block, marks-differ, members-apart}
 use Rattle.rules.proofs.Putting.{leaves-as, leaves-kept, knows-granted, known}
-use Rattle.rules.proofs.Released.{released-leaves}
+use Rattle.rules.proofs.Freed.{released-leaves}
 use Rattle.rules.proofs.Halved.{halved-leaves}
 use Rattle.rules.proofs.Unique.{unique}
 
@@ -51,11 +52,6 @@ containing-offers c run i bs a e =
         let y = both (not g) (leb t run) (x .0) in
         let z : Holds k t c run = record { low = leb-true t run (y .1); high = leb-true (run + 2 ^ c) (t + 2 ^ k) (x .1) } in
         record { here = h; free = rw q (not-true g (y .0)); aligned = a; holds = rw q z }
-
-at-place : (i : ℕ) (bs : List Block) → i < length bs → blockAt i bs ∈ bs
-at-place i [] h = absurd (omega arith)
-at-place zero (b ∷ bs) h = List·Memᴰ·head refl
-at-place (suc i) (b ∷ bs) h = List·Memᴰ·tail (at-place i bs (omega arith))
 
 -- the block that is offered, as one of the free blocks
 pub offered : {c run i : ℕ} {bs : List Block} → Offers c run i bs → Held (Free bs) c run

@@ -1,6 +1,6 @@
 -- The block that serves a grant, found in one pass over the list with the best block so far in hand. Assumes nothing.
 use mathlib.Core.Path.{_≡_, refl, sym, ap, _∙_}
-use mathlib.Core.Bool.{Bool, true, false, true≢false}
+use mathlib.Core.Bool.{true, false, true≢false}
 use mathlib.Core.List.{List, [], _∷_}
 use Prim.Native.Nat.{ℕ, zero, suc, _+_, _≤_, _<_}
 use native.Mathlib.Nat.{add-zero}
@@ -10,6 +10,7 @@ use borrow.Author.Tests.{eqb-true, eq-eqb, ne-eqb}
 use Rattle.rules.specs.Rules.{Block, blk, class, granted, blockAt, firstFrom, freeIn, orElse, smallest}
 use Rattle.rules.specs.declared.Found.{Found}
 use Rattle.rules.specs.declared.Found.the-variants.{At, Nowhere}
+use Rattle.rules.proofs.Best.{first-at}
 
 pub orElse-assoc : (f g h : Found) → orElse (orElse f g) h ≡ orElse f (orElse g h)
 orElse-assoc (At i) g h = refl
@@ -44,25 +45,6 @@ none-left zero c i = refl
 none-left (suc n) c i = none-left n (suc c) i
 
 -- ---- what was found: a place of the list, with a free block that is large enough
-
-pub record FirstAt (p : Block → Bool) (o i : ℕ) (bs : List Block) : Type 0 where
-  pub n : ℕ
-  pub at : i ≡ o + n
-  pub here : n < length bs
-  pub passes : p (blockAt n bs) ≡ true
-
-pub first-at : (p : Block → Bool) (o i : ℕ) (bs : List Block) → firstFrom p o bs ≡ At i → FirstAt p o i bs
-first-at p o i [] e = let z : _≡_ {A = ℕ} 0 1 = cc in absurd (omega arith)
-first-at p o i (b ∷ bs) e = go (p b) refl (first-at p (o + 1) i bs)
-  where
-    go : (x : Bool) → p b ≡ x → (firstFrom p (o + 1) bs ≡ At i → FirstAt p (o + 1) i bs) → FirstAt p o i (b ∷ bs)
-    go true q ih =
-        let g : At o ≡ At i = rw (q, firstFrom) at e in
-        let h : o ≡ i = cc in
-        record { n = 0; at = omega arith; here = omega arith; passes = q }
-    go false q ih =
-        let w = ih (rw (q, firstFrom) at e) in
-        record { n = suc (w .n); at = omega (arith, w .at); here = omega (arith, w .here); passes = w .passes }
 
 pub record Serves (k i : ℕ) (bs : List Block) : Type 0 where
   pub here : i < length bs

@@ -68,6 +68,13 @@ pub record Offers (c run i : ℕ) (bs : List Block) : Type 0 where
   pub aligned : Aligned c run
   pub holds : Holds (class (blockAt i bs)) (start (blockAt i bs)) c run
 
+-- "The smallest class holding a free block that suffices; in it the lowest start": the free block of class k at s, for a request of class c
+pub record Best (bs : List Block) (c k s : ℕ) : Type 0 where
+  pub free : Free bs k s
+  pub enough : c ≤ k
+  pub smallest : (j t : ℕ) → Free bs j t → c ≤ j → k ≤ j
+  pub lowest : (t : ℕ) → Free bs k t → s ≤ t
+
 -- two lists manage the same frames, and have the same granted blocks
 pub record Same (bs cs : List Block) : Type 0 where
   pub frames : (x : ℕ) → Managed bs x ↔ Managed cs x
