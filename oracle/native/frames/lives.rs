@@ -1,7 +1,7 @@
 //! Tables that live through many calls, made by calls or found with their blocks.
 
-use crate::bench::{Bench, Stop};
 use crate::parts::Run;
+use crate::side_by_side::{SideBySide, Stop};
 use crate::tables::Table;
 use frame_oracle::block::Block;
 use frame_oracle::call::Call;
@@ -30,31 +30,31 @@ pub fn fragmented(
     calls: u64,
 ) -> Result<(), Stop> {
     let trouble = Trouble::on(&mut run.numbers, words, order, true);
-    let mut bench = Bench::made(run.port, &mut run.tally, &vec![u64::MAX; words], order)?;
+    let mut both = SideBySide::made(run.port, &mut run.tally, &vec![u64::MAX; words], order)?;
     // the pieces of the range take at most half of the words
     let (start, end) = (0, 1 << (order + words.ilog2() - 2).min(32));
-    bench.call(Call::AddFrame { start, end })?;
+    both.call(Call::AddFrame { start, end })?;
     for _ in 0..grants {
         let start = run.numbers.below(end);
-        let answer = bench.call(Call::AllocAt { start, count: 1 })?;
+        let answer = both.call(Call::AllocAt { start, count: 1 })?;
         if answer.number() == 11 {
             break;
         }
     }
-    random_calls(&mut run.numbers, &mut bench, &trouble, calls * run.times)
+    random_calls(&mut run.numbers, &mut both, &trouble, calls * run.times)
 }
 
 fn random_calls(
     numbers: &mut RandomNumbers,
-    bench: &mut Bench,
+    both: &mut SideBySide,
     trouble: &Trouble,
     calls: u64,
 ) -> Result<(), Stop> {
     for _ in 0..calls {
-        let call = trouble.next_call(numbers, bench.blocks());
+        let call = trouble.next_call(numbers, both.blocks());
         // made anew, a table would lose the blocks that it was given
         if !matches!(call, Call::Make { .. }) {
-            bench.call(call)?;
+            both.call(call)?;
         }
     }
     Ok(())
@@ -75,10 +75,10 @@ pub fn any_length(run: &mut Run) -> Result<(), Stop> {
 fn life(run: &mut Run, words: usize, order: u32, calls: u64) -> Result<(), Stop> {
     let trouble = Trouble::on(&mut run.numbers, words, order, true);
     let over: Vec<u64> = (0..words).map(|_| run.numbers.any()).collect();
-    let mut bench = Bench::made(run.port, &mut run.tally, &over, order)?;
+    let mut both = SideBySide::made(run.port, &mut run.tally, &over, order)?;
     for _ in 0..calls {
-        let call = trouble.next_call(&mut run.numbers, bench.blocks());
-        bench.call(call)?;
+        let call = trouble.next_call(&mut run.numbers, both.blocks());
+        both.call(call)?;
     }
     Ok(())
 }
@@ -94,8 +94,8 @@ pub fn not_made_by_calls(run: &mut Run) -> Result<(), Stop> {
         let table = Table::sound(&mut run.numbers, length);
         let trouble = Trouble::on(&mut run.numbers, length, table.order, true);
         let (order, blocks) = (table.order, &table.blocks);
-        let mut bench = Bench::holding(run.port, &mut run.tally, length, order, blocks);
-        random_calls(&mut run.numbers, &mut bench, &trouble, 30)?;
+        let mut both = SideBySide::holding(run.port, &mut run.tally, length, order, blocks);
+        random_calls(&mut run.numbers, &mut both, &trouble, 30)?;
     }
     Ok(())
 }
@@ -110,8 +110,8 @@ pub fn full_of_single_frames(run: &mut Run) -> Result<(), Stop> {
         };
         let blocks: Vec<Block> = (0..65_535).map(single).collect();
         let trouble = Trouble::on(&mut run.numbers, 65_536, order, true);
-        let mut bench = Bench::holding(run.port, &mut run.tally, 65_536, order, &blocks);
-        random_calls(&mut run.numbers, &mut bench, &trouble, 400 * run.times)?;
+        let mut both = SideBySide::holding(run.port, &mut run.tally, 65_536, order, &blocks);
+        random_calls(&mut run.numbers, &mut both, &trouble, 400 * run.times)?;
     }
     Ok(())
 }

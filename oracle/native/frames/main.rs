@@ -1,18 +1,18 @@
 //! Compares the proved frame table, through its C face, with the document's rules and the real crate, after every call.
 //! Then it puts ports with one fault each in the place of the proved object, and demands that each is noticed.
 
-mod bench;
 mod lives;
 mod parts;
 mod port;
 mod refusals;
+mod side_by_side;
 mod stand_in;
 mod tables;
 
-use bench::{Stop, Tally};
 use frame_oracle::random_numbers::RandomNumbers;
 use parts::{Part, Run, LONG_PARTS, PARTS};
 use port::{Native, Port};
+use side_by_side::{Stop, Tally};
 use stand_in::{Fault, StandIn, FAULTS};
 use std::process::ExitCode;
 use std::time::Instant;

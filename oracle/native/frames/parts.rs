@@ -1,9 +1,9 @@
 //! The parts of a run, each a kind of trouble; every part works on any port.
 
-use crate::bench::{Stop, Tally};
 use crate::lives::*;
 use crate::port::Port;
 use crate::refusals::*;
+use crate::side_by_side::{Stop, Tally};
 use frame_oracle::random_numbers::RandomNumbers;
 use frame_oracle::soundness::Clause;
 

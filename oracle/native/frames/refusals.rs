@@ -1,8 +1,8 @@
 //! Calls that are mostly refused: making, numbers at which something changes, and tables that are not sound.
 
-use crate::bench::{compare, Bench, Lent, Stop};
 use crate::parts::Run;
 use crate::port::Reply;
+use crate::side_by_side::{compare, Lent, SideBySide, Stop};
 use crate::tables::Table;
 use frame_oracle::block::Block;
 use frame_oracle::bookkeeping::Bookkeeping;
@@ -59,12 +59,12 @@ pub fn near_powers(run: &mut Run) -> Result<(), Stop> {
         (1, 2, 4),
     ] {
         for one in &near {
-            let mut bench = Bench::made(run.port, &mut run.tally, &[u64::MAX; 64], order)?;
+            let mut both = SideBySide::made(run.port, &mut run.tally, &[u64::MAX; 64], order)?;
             let (start, end) = (from, to);
-            bench.call(Call::AddFrame { start, end })?;
+            both.call(Call::AddFrame { start, end })?;
             for other in &near {
                 for call in calls_on(*one, *other) {
-                    bench.call(call)?;
+                    both.call(call)?;
                 }
             }
         }

@@ -1,7 +1,7 @@
 //! A port and the judge side by side: each call is put to both, and everything is compared after it.
 
 use crate::port::{Port, Reply};
-use frame_oracle::answer::{Answer, Figures};
+use frame_oracle::answer::Answer;
 use frame_oracle::block::Block;
 use frame_oracle::call::Call;
 use frame_oracle::judge::Judge;
@@ -80,32 +80,34 @@ pub fn compare(
     lent.same(words, call)
 }
 
-pub struct Bench<'a> {
+pub struct SideBySide<'a> {
     port: &'a mut dyn Port,
     tally: &'a mut Tally,
     judge: Judge,
     lent: Lent,
+    calls: Vec<Call>,
 }
 
-impl<'a> Bench<'a> {
+impl<'a> SideBySide<'a> {
     /// A table that the port makes over these words, whatever they are; the ORDER is in range.
     pub fn made(
         port: &'a mut dyn Port,
         tally: &'a mut Tally,
         over: &[u64],
         order: u32,
-    ) -> Result<Bench<'a>, Stop> {
+    ) -> Result<SideBySide<'a>, Stop> {
         let order = u64::from(order);
         let judge = Judge::new(over.len(), order).expect("a length and ORDER in range");
         let mut lent = Lent::new(over);
         let (call, fresh) = (Call::Make { order }, judge.words());
         compare(port, &mut lent, call, Reply::done(0), &fresh)?;
         tally.count(0);
-        Ok(Bench {
+        Ok(SideBySide {
             port,
             tally,
             judge,
             lent,
+            calls: Vec::new(),
         })
     }
 
@@ -116,14 +118,15 @@ impl<'a> Bench<'a> {
         length: usize,
         order: u32,
         blocks: &[Block],
-    ) -> Bench<'a> {
+    ) -> SideBySide<'a> {
         let words = table_words(order, blocks, length);
         let judge = Judge::of_table(&words).expect("a sound table");
-        Bench {
+        SideBySide {
             port,
             tally,
             judge,
             lent: Lent::new(&words),
+            calls: Vec::new(),
         }
     }
 
@@ -131,32 +134,39 @@ impl<'a> Bench<'a> {
         self.judge.blocks()
     }
 
-    /// The call, by document, crate and port; then the port's summary against the crate's own fields.
+    /// The call, by document, crate and port; where the port differs, the calls before it are told too.
     pub fn call(&mut self, call: Call) -> Result<Answer, Stop> {
         let answer = self
             .judge
             .call(call)
             .map_err(|parting| Stop::Parted(parting.to_string()))?;
-        let words = self.judge.words();
-        compare(
-            self.port,
-            &mut self.lent,
-            call,
-            Reply::expected(answer),
-            &words,
-        )?;
+        self.compare_all(call, answer)
+            .map_err(|stop| self.with_calls_before(stop))?;
         self.tally.count(answer.number());
-        let Figures {
-            granted,
-            managed,
-            largest,
-        } = self.judge.figures_of_crate();
-        let figures = Reply {
-            number: 0,
-            values: [granted, managed, largest],
-        };
-        compare(self.port, &mut self.lent, Call::Summary, figures, &words)?;
+        self.calls.push(call);
         Ok(answer)
+    }
+
+    /// Numbers and words after the call, then the port's summary against the crate's own fields, and the words again.
+    fn compare_all(&mut self, call: Call, answer: Answer) -> Result<(), Stop> {
+        let (words, reply) = (self.judge.words(), Reply::expected(answer));
+        compare(self.port, &mut self.lent, call, reply, &words)?;
+        let figures = Reply::expected(Answer::Summed(self.judge.figures_of_crate()));
+        compare(self.port, &mut self.lent, Call::Summary, figures, &words)
+    }
+
+    /// How the port differs, and the last few calls before that on this table.
+    fn with_calls_before(&self, stop: Stop) -> Stop {
+        let Stop::Differs(how) = stop else {
+            return stop;
+        };
+        let last = self.calls.iter().rev().take(4).rev();
+        let last: Vec<String> = last.map(Call::to_string).collect();
+        let (order, count) = (self.judge.order(), self.calls.len());
+        let before = last.join("; ");
+        Stop::Differs(format!(
+            "{how}; ORDER {order}, after {count} calls: .. {before}"
+        ))
     }
 }
 
