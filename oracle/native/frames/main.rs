@@ -15,9 +15,13 @@ use port::{Native, Port};
 use side_by_side::{Stop, Tally};
 use stand_in::{Fault, StandIn, FAULTS};
 use std::process::ExitCode;
-use std::time::Instant;
+use std::thread;
+use std::time::{Duration, Instant};
 
 const SEED: u64 = 20_130;
+
+/// More than ten times what a run takes; a port that hangs must not hang the test.
+const LONGEST: Duration = Duration::from_secs(600);
 
 /// The verdicts so far, one line each.
 struct Verdicts {
@@ -126,6 +130,16 @@ fn show_that_faults_are_noticed(verdicts: &mut Verdicts, seed: u64) {
     }
 }
 
+/// Ends the program as failed where it has not ended by itself in time.
+fn end_after(limit: Duration) {
+    thread::spawn(move || {
+        thread::sleep(limit);
+        println!("FAILED to end: still at work after {} s", limit.as_secs());
+        println!("0 passed, 1 failed");
+        std::process::exit(1);
+    });
+}
+
 fn main() -> ExitCode {
     let Some((seed, times)) = options() else {
         eprintln!(
@@ -134,6 +148,7 @@ fn main() -> ExitCode {
         return ExitCode::from(2);
     };
     println!("seed {seed}, {times} times");
+    end_after(LONGEST.saturating_mul(times as u32));
     let mut verdicts = Verdicts {
         passed: 0,
         failed: 0,
