@@ -85,3 +85,94 @@ one-less k s j t gs = (λ p. without-has (isGranted k s) (p .0) (other (isGrante
     other : (b : Bool) → isGranted k s (blk true j t) ≡ b → (Is k s j t → ⊥) → isGranted k s (blk true j t) ≡ false
     other true e n = absurd (n (is-block (knows-granted k s (blk true j t) .0 e)))
     other false e n = e
+
+-- ---- one call
+
+module _ {n order : ℕ} (w : World) (k : Known n order w) where
+  abbrev So : Call → Outcome → Type 0
+  So c o = Known n order (record { words = o .words; history = noted c (o .reply) (w .history) })
+
+  -- an accepted range: empty, and nothing is noted, or not, and it is noted
+  after-adding : (s e : ℕ) (left : List Block)
+      → Leaves (order - 1) (λ x. Managed (k .blocks) x ⊎ Within s e x) (Granted (k .blocks)) (Joined (order - 1) (Free (k .blocks)) × (s < e → Touches s e (k .blocks) → ⊥)) left
+      → length left ≤ n - 1 → So (Add s e) (carried (0 ∷ []) (w .words) (done (0 ∷ []) left))
+  after-adding s e left l fits = go (ltb s e) refl
+    where
+      added : s < e → (x : ℕ) → Managed left x ↔ Added x (range s e ∷ w .history .ranges)
+      added h x = (
+        λ m. ⊎-elim (λ o. let a = k .frames x .0 o in record { start = a .start; end = a .end; member = List·Memᴰ·tail (a .member); within = a .within }) (λ d. record { start = s; end = e; member = List·Memᴰ·head refl; within = d }) (l .frames x .0 m),
+        λ a. l .frames x .1 (⊎-elim (λ q. inr (same a q)) (λ o. inl (k .frames x .1 (record { start = a .start; end = a .end; member = o; within = a .within }))) (List·Memᴰ·cases-cons (a .member))),
+      )
+        where
+          same : (a : Added x (range s e ∷ w .history .ranges)) → range (a .start) (a .end) ≡ range s e → Within s e x
+          same a q = let p : a .start ≡ s = cc in let r : a .end ≡ e = cc in rw (← p, ← r) (a .within)
+
+      joins : NoTouch (range s e ∷ w .history .ranges) → Joined (order - 1) (Free left)
+      joins (and apart-from more) = l .joined (k .joined more, λ h t. untouched apart-from (λ x m. k .frames x .0 m) t)
+
+      go : (b : Bool) → ltb s e ≡ b → So (Add s e) (carried (0 ∷ []) (w .words) (done (0 ∷ []) left))
+      go true q =
+          rw (q, accepted)
+          (record {
+            blocks = left;
+            stands = stands-after (k .stands) left (l .sound) fits;
+            frames = added (ltb-true s e q);
+            grants = λ j t. (λ m. k .grants j t .0 (l .granted j t .0 m), λ m. l .granted j t .1 (k .grants j t .1 m));
+            joined = joins;
+          })
+      go false q =
+          let h : e ≤ s = ltb-false s e q in
+          rw (q, accepted)
+          (record {
+            blocks = left;
+            stands = stands-after (k .stands) left (l .sound) fits;
+            frames = λ x. (λ m. k .frames x .0 (⊎-elim (λ o. o) (λ d. absurd (omega arith)) (l .frames x .0 m)), λ a. l .frames x .1 (inl (k .frames x .1 a)));
+            grants = λ j t. (λ m. k .grants j t .0 (l .granted j t .0 m), λ m. l .granted j t .1 (k .grants j t .1 m));
+            joined = λ p. l .joined (k .joined p, λ r. absurd (omega arith));
+          })
+
+  carried-known : (c : Call) (d : Decision) → Effect (order - 1) (n - 1) (k .blocks) c d → So c (carried (zeros c) (w .words) d)
+  carried-known c d (refuses {r = r} p) = rw (ne-eqb (numberOf r) 0 (λ e. omega arith), noted) k
+  carried-known c d (adds {s = s} {e = e} {after = left} l fits) = after-adding s e left l fits
+  carried-known c d (grants {k = j} {v = v} {after = left} g l fits back) =
+      rw (accepted-grant v (w .history) g)
+      (record {
+        blocks = left;
+        stands = stands-after (k .stands) left (l .sound) fits;
+        frames = λ x. (λ m. k .frames x .0 (l .frames x .0 m), λ a. l .frames x .1 (k .frames x .1 a));
+        grants = λ i t. (
+          λ m. one-more j v i t (w .history .grants) .0 (⊎-elim (λ q. inl q) (λ o. inr (k .grants i t .0 o)) (l .granted i t .0 m)),
+          λ m. l .granted i t .1 (⊎-elim (λ q. inl q) (λ o. inr (k .grants i t .1 o)) (one-more j v i t (w .history .grants) .1 m)),
+        );
+        joined = λ p. l .joined (k .joined p);
+      })
+  carried-known c d (gives {k = j} {s = s} {after = left} r l fits) =
+      rw (accepted-release 0 (w .history) r)
+      (record {
+        blocks = left;
+        stands = stands-after (k .stands) left (l .sound) fits;
+        frames = λ x. (λ m. k .frames x .0 (l .frames x .0 m), λ a. l .frames x .1 (k .frames x .1 a));
+        grants = λ i t. (
+          λ m. let q = l .granted i t .0 m in one-less j s i t (w .history .grants) .0 (k .grants i t .0 (q .0), q .1),
+          λ m. let q = one-less j s i t (w .history .grants) .1 m in l .granted i t .1 (k .grants i t .1 (q .0), q .1),
+        );
+        joined = λ p. l .joined (k .joined p);
+      })
+  carried-known c d (sums {values = vs}) =
+      record {
+        blocks = k .blocks;
+        stands = stands-after (k .stands) (k .blocks) (k .stands .sound) (omega (arith, k .stands .fits));
+        frames = k .frames;
+        grants = k .grants;
+        joined = k .joined;
+      }
+
+  pub step-known : (c : Call) → Known n order (step c w)
+  step-known c =
+      let s = k .stands in
+      subst (So c) (sym (stands-outcome s c))
+      (carried-known c (decide c order (n - 1) (k .blocks)) (effect order (n - 1) (k .blocks) (s .low) (s .high) (s .sound) (omega (arith, s .fits)) c))
+
+pub after-known : {n order : ℕ} (cs : List Call) (w : World) → Known n order w → Known n order (after cs w)
+after-known [] w k = k
+after-known (c ∷ cs) w k = after-known cs (step c w) (step-known w k c)
