@@ -82,7 +82,7 @@ module _ {top s n e : ℕ} (turns : ℕ) (bs : List Block) (all : s + n ≡ e) (
   unfolding cutFrom
   cut-turn clear rest =
       rw (ne-eqb n 0 (λ z. omega arith), cutFrom)
-      (first-piece s e p k bs (insertAll (cutFrom turns top (s + p) (n - p)) bs) size fits (omega (arith, w .within)) largest clear rest)
+      (first-piece s e p _ bs _ size fits (omega (arith, w .within)) largest clear rest)
     where
       k : ℕ
       k = sizeClass p

@@ -98,4 +98,4 @@ module _ {top : ℕ} (order : top ≤ 32) where
       (λ j t.
       (λ m. let n = w .others (blk true j t) .0 m in (n .0, λ i. n .1 (same-block i)), λ m. w .others (blk true j t) .1 (m .0, λ q. m .1 (is-block q))))
       (joined-fewer (λ j t m. w .others (blk false j t) .0 m .0))
-      (joining (top - k) k s (without (isGranted k s) bs) (omega arith) (w .sound) f (w .clear))
+      (joining _ k s (without (isGranted k s) bs) (omega arith) (w .sound) f (w .clear))
