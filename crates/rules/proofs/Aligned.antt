@@ -1,7 +1,7 @@
 -- Two aligned blocks are nested or disjoint; halves; buddies. Assumes nothing.
 use mathlib.Core.Path.{_≡_}
-use mathlib.Core.Logic.{_⊎_, inl, inr}
-use Prim.Native.Nat.{ℕ, suc, _+_, _-_, _*_, _/_, _^_, _≤_, _<_, max}
+use mathlib.Core.Logic.{_⊎_, _↔_, inl, inr, ⊎-elim}
+use Prim.Native.Nat.{ℕ, suc, _+_, _-_, _*_, _/_, _^_, _≤_, _<_, min, max}
 use native.Mathlib.Nat.{mul-le-mul-right, pow-suc, lt-of-not-le}
 use native.Mathlib.Omega.{arith}
 use native.Mathlib.Decide.{decLe}
@@ -113,3 +113,25 @@ one-buddy {k} (upper a e) (upper b f) = omega arith
 one-buddy {k} (upper a e) (lower b f) = absurd (not-both (record { multiple = a }) (record { multiple = b }) f)
 one-buddy {k} (lower a e) (upper b f) = absurd (not-both (record { multiple = b }) (record { multiple = a }) e)
 one-buddy {k} (lower a e) (lower b f) = omega arith
+
+-- the block that a pair makes: where it may start, and what it covers
+pub pair-aligned : {k s b : ℕ} → Buddies k s b → Aligned (suc k) (min s b)
+pair-aligned {k} {s} {b} (upper a e) = let m : min s b ≡ s = omega arith in rw m (record { multiple = a })
+pair-aligned {k} {s} {b} (lower a e) = let m : min s b ≡ b = omega arith in rw m (record { multiple = a })
+
+pub pair-covers : {k s b x : ℕ} → Buddies k s b → Covers (suc k) (min s b) x ↔ (Covers k s x ⊎ Covers k b x)
+pair-covers {k} {s} {b} {x} p = (to p, from p)
+  where
+    to : Buddies k s b → Covers (suc k) (min s b) x → Covers k s x ⊎ Covers k b x
+    to (upper a e) c = let d : Covers (suc k) s x = omega arith in ⊎-elim inl (λ h. inr (omega arith)) (halves-cover d)
+    to (lower a e) c = let d : Covers (suc k) b x = omega arith in ⊎-elim inr (λ h. inl (omega arith)) (halves-cover d)
+
+    from : Buddies k s b → Covers k s x ⊎ Covers k b x → Covers (suc k) (min s b) x
+    from (upper a e) (inl c) = omega arith
+    from (upper a e) (inr c) = omega arith
+    from (lower a e) (inl c) = omega arith
+    from (lower a e) (inr c) = omega arith
+
+pub never-itself : {k s : ℕ} → Buddies k s s → ⊥
+never-itself {k} (upper a e) = omega (arith, pow-pos k)
+never-itself {k} (lower a e) = omega (arith, pow-pos k)

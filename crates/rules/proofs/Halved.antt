@@ -15,11 +15,12 @@ use Rattle.rules.specs.Aligned.{Aligned, Covers, Holds, Meets}
 use Rattle.rules.specs.Largest.{Joined}
 use Rattle.rules.specs.Rules.{Block, blk, granted, class, start, Sound, next, towards, blockAt, halved}
 use Rattle.rules.specs.Managed.{_∈_, Free, Granted, Is, Managed, Offers, Leaves}
-use Rattle.rules.proofs.Aligned.{nested, holds-class, holds-meets, held-covers, lower-half, upper-half, buddies-comm}
+use Rattle.rules.proofs.Aligned.{nested, holds-class, holds-meets, held-covers, lower-half, upper-half, buddies-comm, pair-aligned, pair-covers}
+use Rattle.rules.proofs.Largest.{joined-more}
 use Rattle.rules.proofs.Lists.{Stands, stands, split-here}
 use Rattle.rules.proofs.Halving.{halve-low, halve-high, halve-done}
 use Rattle.rules.proofs.Members.{is-block, same-block, marks-differ, Fits, member-low, below-member}
-use Rattle.rules.proofs.Putting.{managed-by, holder, managed-more, covers-same, pair-aligned, pair-covers, joined-more}
+use Rattle.rules.proofs.Putting.{managed-by, holder, managed-more, covers-same}
 
 -- ---- the blocks that a block of class j at t is halved into
 

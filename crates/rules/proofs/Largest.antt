@@ -6,9 +6,10 @@ use native.Mathlib.Nat.{eq-or-lt-of-le}
 use native.Mathlib.Omega.{arith}
 use lib.Pow.{pow-pos}
 use Rattle.rules.specs.Aligned.{Aligned, Covers, Holds}
-use Rattle.blocks.specs.Laws.{upper}
+use Rattle.blocks.specs.Laws.{Buddies, upper}
 use Rattle.rules.specs.Largest.{Covered, Whole, Largest, Tidy, Joined, Held}
-use Rattle.rules.proofs.Aligned.{nested, holds-class, meets-at, held-covers, covers-start, holds-meets, lower-half, upper-half}
+use Rattle.rules.specs.Managed.{Is}
+use Rattle.rules.proofs.Aligned.{nested, holds-class, meets-at, held-covers, covers-start, holds-meets, lower-half, upper-half, buddies-comm, never-itself}
 
 -- a holder of the same class is the block itself
 held-same : {B : ℕ → ℕ → Type 0} {k s : ℕ} (f : Held B k s) → k ≡ f .class → B k s
@@ -64,3 +65,22 @@ module _ (top : ℕ) (B : ℕ → ℕ → Type 0) (tidy : Tidy top B) where
               go : (k ≡ f .class) ⊎ (k < f .class) → B k s
               go (inl e) = held-same f e
               go (inr l) = absurd (m .no-larger (f .class) (f .start) (tidy .small (f .member)) (tidy .aligned (f .member)) (f .holds) l (covered-self (f .member)))
+
+-- ---- fewer blocks, and one block more
+
+-- fewer blocks leave no more to join; nor does one block more, where its buddy is not there
+pub joined-fewer : {top : ℕ} {B C : ℕ → ℕ → Type 0} → ((k s : ℕ) → C k s → B k s) → Joined top B → Joined top C
+joined-fewer f n = record { never = λ {k} {s} {b} l p x y. n .never l p (f k s x) (f k b y) }
+
+pub joined-more : {top : ℕ} {B C : ℕ → ℕ → Type 0} (k s : ℕ) → ((j t : ℕ) → C j t → Is k s j t ⊎ B j t)
+    → ((b : ℕ) → k < top → Buddies k s b → B k b → ⊥) → Joined top B → Joined top C
+joined-more {top} {B} {C} k s f alone n = record { never = λ {k = j} {s = t} {b} l p x y. go j t b l p (f j t x) (f j b y) }
+  where
+    one : (j t b : ℕ) → j < top → Buddies j t b → Is k s j t → B j b → ⊥
+    one j t b l p e y = alone b (omega (arith, e .class)) (rw (sym (e .class), sym (e .start)) p) (rw (sym (e .class)) y)
+
+    go : (j t b : ℕ) → j < top → Buddies j t b → Is k s j t ⊎ B j t → Is k s j b ⊎ B j b → ⊥
+    go j t b l p (inl e) (inl d) = let z : b ≡ t = omega arith in never-itself (rw z at p)
+    go j t b l p (inl e) (inr y) = one j t b l p e y
+    go j t b l p (inr x) (inl d) = one j b t l (buddies-comm p) d x
+    go j t b l p (inr x) (inr y) = n .never l p x y

@@ -3,16 +3,16 @@ use mathlib.Core.Path.{_≡_, refl, sym, _∙_}
 use mathlib.Core.Logic.{_⊎_, _↔_, inl, inr, ⊎-elim, Iff·trans}
 use mathlib.Core.Bool.{Bool, true, false, true≢false}
 use mathlib.Core.List.{List}
-use Prim.Native.Nat.{ℕ, suc, _<_, min}
+use Prim.Native.Nat.{ℕ, _<_}
 use native.Mathlib.Omega.{arith}
-use lib.Pow.{pow-pos}
 use borrow.Author.Tests.{eq-eqb}
-use Rattle.blocks.specs.Laws.{Buddies, upper, lower}
-use Rattle.rules.specs.Aligned.{Aligned, Covers}
+use Rattle.blocks.specs.Laws.{Buddies}
+use Rattle.rules.specs.Aligned.{Covers}
 use Rattle.rules.specs.Largest.{Joined}
 use Rattle.rules.specs.Rules.{Block, blk, Sound, some, without, insert, isFree, isGranted}
-use Rattle.rules.specs.Managed.{_∈_, Free, Granted, Is, Managed, Kept, Leaves}
-use Rattle.rules.proofs.Aligned.{buddies-comm, meets-at, meets-frame, halves-cover}
+use Rattle.rules.specs.Managed.{_∈_, Free, Granted, Managed, Kept, Leaves}
+use Rattle.rules.proofs.Aligned.{meets-at, meets-frame}
+use Rattle.rules.proofs.Largest.{joined-more}
 use Rattle.rules.proofs.Lists.{free-picks, granted-picks}
 use Rattle.rules.proofs.Members.{is-block, same-block, marks-differ, Fits, members-apart, some-passes, some-member, in-insert, insert-has, insert-sound, in-without, without-has, without-sound}
 
@@ -47,47 +47,6 @@ leaves-as f g p w = record {
 
 pub leaves-kept : {top : ℕ} {F : ℕ → Type 0} {G : ℕ → ℕ → Type 0} {P : Type 0} {after : List Block} → Leaves top F G P after → P → Kept top after
 leaves-kept w p = record { sound = w .sound; joined = w .joined p }
-
--- ---- pairs of buddies
-
--- the block that a pair makes: where it may start, and what it covers
-pub pair-aligned : {k s b : ℕ} → Buddies k s b → Aligned (suc k) (min s b)
-pair-aligned {k} {s} {b} (upper a e) = let m : min s b ≡ s = omega arith in rw m (record { multiple = a })
-pair-aligned {k} {s} {b} (lower a e) = let m : min s b ≡ b = omega arith in rw m (record { multiple = a })
-
-pub pair-covers : {k s b x : ℕ} → Buddies k s b → Covers (suc k) (min s b) x ↔ (Covers k s x ⊎ Covers k b x)
-pair-covers {k} {s} {b} {x} p = (to p, from p)
-  where
-    to : Buddies k s b → Covers (suc k) (min s b) x → Covers k s x ⊎ Covers k b x
-    to (upper a e) c = let d : Covers (suc k) s x = omega arith in ⊎-elim inl (λ h. inr (omega arith)) (halves-cover d)
-    to (lower a e) c = let d : Covers (suc k) b x = omega arith in ⊎-elim inr (λ h. inl (omega arith)) (halves-cover d)
-
-    from : Buddies k s b → Covers k s x ⊎ Covers k b x → Covers (suc k) (min s b) x
-    from (upper a e) (inl c) = omega arith
-    from (upper a e) (inr c) = omega arith
-    from (lower a e) (inl c) = omega arith
-    from (lower a e) (inr c) = omega arith
-
-never-itself : {k s : ℕ} → Buddies k s s → ⊥
-never-itself {k} (upper a e) = omega (arith, pow-pos k)
-never-itself {k} (lower a e) = omega (arith, pow-pos k)
-
--- fewer blocks leave no more to join; nor does one block more, where its buddy is not there
-pub joined-fewer : {top : ℕ} {B C : ℕ → ℕ → Type 0} → ((k s : ℕ) → C k s → B k s) → Joined top B → Joined top C
-joined-fewer f n = record { never = λ {k} {s} {b} l p x y. n .never l p (f k s x) (f k b y) }
-
-pub joined-more : {top : ℕ} {B C : ℕ → ℕ → Type 0} (k s : ℕ) → ((j t : ℕ) → C j t → Is k s j t ⊎ B j t)
-    → ((b : ℕ) → k < top → Buddies k s b → B k b → ⊥) → Joined top B → Joined top C
-joined-more {top} {B} {C} k s f alone n = record { never = λ {k = j} {s = t} {b} l p x y. go j t b l p (f j t x) (f j b y) }
-  where
-    one : (j t b : ℕ) → j < top → Buddies j t b → Is k s j t → B j b → ⊥
-    one j t b l p e y = alone b (rw (sym (e .class)) l) (rw (sym (e .class), sym (e .start)) p) (rw (sym (e .class)) y)
-
-    go : (j t b : ℕ) → j < top → Buddies j t b → Is k s j t ⊎ B j t → Is k s j b ⊎ B j b → ⊥
-    go j t b l p (inl e) (inl d) = let z : b ≡ t = omega arith in never-itself (rw z at p)
-    go j t b l p (inl e) (inr y) = one j t b l p e y
-    go j t b l p (inr x) (inl d) = one j b t l (buddies-comm p) d x
-    go j t b l p (inr x) (inr y) = n .never l p x y
 
 -- ---- one free block put in
 
