@@ -111,7 +111,8 @@ cutting zero top s n e bs q r h sound clear = nothing-cut s e bs (omega arith) s
 cutting (suc t) top s n e bs q r h sound clear = go (decLt 0 n) (λ d r f l c. cutting t top (s + d) (n - d) e bs f r l sound c)
   where
     go : Dec (0 < n)
-        → ((d : ℕ) → Range top (s + d) (n - d) → s + d + (n - d) ≡ e → n - d ≤ t → ((x : ℕ) → Managed bs x → Within (s + d) e x → ⊥) → Cuts top (s + d) e bs (insertAll (cutFrom t top (s + d) (n - d)) bs))
+        → ((d : ℕ) → Range top (s + d) (n - d) → s + d + (n - d) ≡ e → n - d ≤ t → ((x : ℕ) → Managed bs x → Within (s + d) e x → ⊥)
+        → Cuts top (s + d) e bs (insertAll (cutFrom t top (s + d) (n - d)) bs))
         → Cuts top s e bs (insertAll (cutFrom (suc t) top s n) bs)
     go (yes p) ih =
         let w = piece-fits r p in

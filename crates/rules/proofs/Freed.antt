@@ -13,9 +13,9 @@ use Rattle.rules.specs.Largest.{Joined}
 use Rattle.rules.specs.Rules.{Block, blk, Sound, isFree, isGranted, some, without, insert, joined, released}
 use Rattle.rules.specs.Managed.{_∈_, Free, Granted, Is, Managed, Leaves}
 use Rattle.rules.proofs.Aligned.{one-buddy, pair-aligned, pair-covers}
-use Rattle.rules.proofs.Largest.{joined-fewer}
+use Rattle.rules.proofs.Largest.{joined-fewer, Alone}
 use Rattle.rules.proofs.Members.{is-block, same-block, marks-differ, Fits, member-fits, some-fails}
-use Rattle.rules.proofs.Putting.{leaves-as, Alone, put, knows-free, knows-granted, known, Without, without-one}
+use Rattle.rules.proofs.Putting.{leaves-as, put, knows-free, knows-granted, known, Without, without-one}
 
 pair-fits : {top k s b : ℕ} → Buddies k s b → k < top → s + 2 ^ k ≤ 2 ^ 32 → b + 2 ^ k ≤ 2 ^ 32 → Fits top (suc k) (min s b)
 pair-fits {top} {k} {s} {b} p l h e = record { small = l; aligned = pair-aligned p; within = ends p }

@@ -68,12 +68,16 @@ module _ (top : ℕ) (B : ℕ → ℕ → Type 0) (tidy : Tidy top B) where
 
 -- ---- fewer blocks, and one block more
 
--- fewer blocks leave no more to join; nor does one block more, where its buddy is not there
+-- fewer blocks leave no more to join
 pub joined-fewer : {top : ℕ} {B C : ℕ → ℕ → Type 0} → ((k s : ℕ) → C k s → B k s) → Joined top B → Joined top C
 joined-fewer f n = record { never = λ {k} {s} {b} l p x y. n .never l p (f k s x) (f k b y) }
 
-pub joined-more : {top : ℕ} {B C : ℕ → ℕ → Type 0} (k s : ℕ) → ((j t : ℕ) → C j t → Is k s j t ⊎ B j t)
-    → ((b : ℕ) → k < top → Buddies k s b → B k b → ⊥) → Joined top B → Joined top C
+-- no block of B is a buddy of the block of class k at s, below top
+abbrev pub Alone : ℕ → (ℕ → ℕ → Type 0) → ℕ → ℕ → Type 0
+Alone top B k s = (b : ℕ) → k < top → Buddies k s b → B k b → ⊥
+
+-- nor does one block more, where its buddy is not there
+pub joined-more : {top : ℕ} {B C : ℕ → ℕ → Type 0} (k s : ℕ) → ((j t : ℕ) → C j t → Is k s j t ⊎ B j t) → Alone top B k s → Joined top B → Joined top C
 joined-more {top} {B} {C} k s f alone n = record { never = λ {k = j} {s = t} {b} l p x y. go j t b l p (f j t x) (f j b y) }
   where
     one : (j t b : ℕ) → j < top → Buddies j t b → Is k s j t → B j b → ⊥

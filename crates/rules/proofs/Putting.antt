@@ -6,13 +6,12 @@ use mathlib.Core.List.{List}
 use Prim.Native.Nat.{ℕ, _<_}
 use native.Mathlib.Omega.{arith}
 use borrow.Author.Tests.{eq-eqb}
-use Rattle.blocks.specs.Laws.{Buddies}
 use Rattle.rules.specs.Aligned.{Covers}
 use Rattle.rules.specs.Largest.{Joined}
 use Rattle.rules.specs.Rules.{Block, blk, Sound, some, without, insert, isFree, isGranted}
 use Rattle.rules.specs.Managed.{_∈_, Free, Granted, Managed, Kept, Leaves}
 use Rattle.rules.proofs.Aligned.{meets-at, meets-frame}
-use Rattle.rules.proofs.Largest.{joined-more}
+use Rattle.rules.proofs.Largest.{Alone, joined-more}
 use Rattle.rules.proofs.Lists.{free-picks, granted-picks}
 use Rattle.rules.proofs.Members.{is-block, same-block, marks-differ, Fits, members-apart, some-passes, some-member, in-insert, insert-has, insert-sound, in-without, without-has, without-sound}
 
@@ -49,10 +48,6 @@ pub leaves-kept : {top : ℕ} {F : ℕ → Type 0} {G : ℕ → ℕ → Type 0} 
 leaves-kept w p = record { sound = w .sound; joined = w .joined p }
 
 -- ---- one free block put in
-
--- no free block of B is a buddy of the block of class k at s
-abbrev pub Alone : ℕ → (ℕ → ℕ → Type 0) → ℕ → ℕ → Type 0
-Alone top B k s = (b : ℕ) → k < top → Buddies k s b → B k b → ⊥
 
 pub put : {top : ℕ} (k s : ℕ) (bs : List Block) → Sound top 0 bs → Fits top k s → ((x : ℕ) → Managed bs x → Covers k s x → ⊥)
     → Leaves top (λ x. Managed bs x ⊎ Covers k s x) (Granted bs) (Joined top (Free bs) × Alone top (Free bs) k s) (insert (blk false k s) bs)

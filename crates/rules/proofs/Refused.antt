@@ -1,4 +1,4 @@
--- A request finds no block exactly when no run of its class is wholly left, or the run that it names is not. Assumes nothing.
+-- A request finds no block exactly when no run of its class is wholly spare, or the run that it names is not. Assumes nothing.
 use mathlib.Core.Path.{_≡_, refl, sym, _∙_}
 use mathlib.Core.Logic.{_⊎_, _↔_, inl, inr}
 use mathlib.Core.Bool.{true, false, true≢false}
@@ -12,12 +12,12 @@ use Rattle.rules.specs.Largest.{Whole, Held}
 use Rattle.rules.specs.Rules.{Block, blk, class, start, blockAt, firstFrom, freeIn, smallest, serving, contains, containing}
 use Rattle.rules.specs.declared.Found.{Found}
 use Rattle.rules.specs.declared.Found.the-variants.{At, Nowhere}
-use Rattle.rules.specs.Managed.{Free, Within, Left, Lacks, Kept}
+use Rattle.rules.specs.Managed.{Free, Within, Spare, Lacks, Kept}
 use Rattle.rules.proofs.Aligned.{holds-class, held-covers}
 use Rattle.rules.proofs.Largest.{in-one, covered-self}
 use Rattle.rules.proofs.Members.{tidy, member-fits}
 use Rattle.rules.proofs.Best.{somewhere, not-first, higher}
-use Rattle.rules.proofs.Unique.{left-is}
+use Rattle.rules.proofs.Unique.{spare-is}
 use Rattle.rules.proofs.Restored.{offered, serving-offers, containing-offers}
 
 -- ---- what is not found is not there
@@ -40,47 +40,47 @@ none-contains c run bs e h =
 -- ---- refusals for want of a block
 
 module _ {top : ℕ} (bs : List Block) (w : Kept top bs) where
-  -- a run that is wholly left lies in one free block, and the other way round
-  left-held : (c run : ℕ) → c ≤ top → Aligned c run → Whole (Left bs) c run → Held (Free bs) c run
-  left-held c run h a f = in-one top (Free bs) (tidy (w .sound)) (w .joined) c run h a (λ x d. left-is x (w .sound) .0 (f x d))
+  -- a run that is wholly spare lies in one free block, and the other way round
+  spare-held : (c run : ℕ) → c ≤ top → Aligned c run → Whole (Spare bs) c run → Held (Free bs) c run
+  spare-held c run h a f = in-one top (Free bs) (tidy (w .sound)) (w .joined) c run h a (λ x d. spare-is x (w .sound) .0 (f x d))
 
-  held-left : {c run : ℕ} → Held (Free bs) c run → Whole (Left bs) c run
-  held-left h x d = left-is x (w .sound) .1 (covered-self (h .member) x (held-covers (h .holds) d))
+  held-spare : {c run : ℕ} → Held (Free bs) c run → Whole (Spare bs) c run
+  held-spare h x d = spare-is x (w .sound) .1 (covered-self (h .member) x (held-covers (h .holds) d))
 
   -- "refused for want of a block exactly when no wholly free run of its rounded size stands at a multiple of that size"
-  pub serving-refused : (c : ℕ) → c ≤ top → (serving top c bs ≡ Nowhere) ↔ ((run : ℕ) → Aligned c run → Whole (Left bs) c run → ⊥)
+  pub serving-refused : (c : ℕ) → c ≤ top → (serving top c bs ≡ Nowhere) ↔ ((run : ℕ) → Aligned c run → Whole (Spare bs) c run → ⊥)
   unfolding serving
-  serving-refused c l = (λ e run a f. none e (left-held c run l a f), λ n. go (serving top c bs) refl n)
+  serving-refused c l = (λ e run a f. none e (spare-held c run l a f), λ n. go (serving top c bs) refl n)
     where
       none : serving top c bs ≡ Nowhere → {run : ℕ} → Held (Free bs) c run → ⊥
       none e h = none-serves (suc top - c) c 0 bs e (h .class) (h .start) (h .member) (holds-class (h .holds)) (omega (arith, member-fits (w .sound) (h .member) .small))
 
-      go : (f : Found) → serving top c bs ≡ f → ((run : ℕ) → Aligned c run → Whole (Left bs) c run → ⊥) → serving top c bs ≡ Nowhere
-      go (At i) e n = let o = serving-offers c i bs (w .sound) e in absurd (n (start (blockAt i bs)) (o .aligned) (held-left (offered o)))
+      go : (f : Found) → serving top c bs ≡ f → ((run : ℕ) → Aligned c run → Whole (Spare bs) c run → ⊥) → serving top c bs ≡ Nowhere
+      go (At i) e n = let o = serving-offers c i bs (w .sound) e in absurd (n (start (blockAt i bs)) (o .aligned) (held-spare (offered o)))
       go Nowhere e n = e
 
-  -- each frame is left or not, and so a run that is not wholly left lacks a frame
-  left-or-not : (x : ℕ) → Left bs x ⊎ (Left bs x → ⊥)
-  left-or-not x = go (containing 0 x bs) refl
+  -- each frame is spare or not, and so a run that is not wholly spare lacks a frame
+  spare-or-not : (x : ℕ) → Spare bs x ⊎ (Spare bs x → ⊥)
+  spare-or-not x = go (containing 0 x bs) refl
     where
       one : Aligned 0 x
       one = record { multiple = omega arith }
 
-      go : (f : Found) → containing 0 x bs ≡ f → Left bs x ⊎ (Left bs x → ⊥)
-      go (At i) e = inl (held-left (offered (containing-offers 0 x i bs one e)) x (omega arith))
-      go Nowhere e = inr (λ f. none-contains 0 x bs e (left-held 0 x (omega arith) one (λ y c. let q : y ≡ x = omega arith in rw q f)))
+      go : (f : Found) → containing 0 x bs ≡ f → Spare bs x ⊎ (Spare bs x → ⊥)
+      go (At i) e = inl (held-spare (offered (containing-offers 0 x i bs one e)) x (omega arith))
+      go Nowhere e = inr (λ f. none-contains 0 x bs e (spare-held 0 x (omega arith) one (λ y c. let q : y ≡ x = omega arith in rw q f)))
 
-  lacks-or-not : (n run : ℕ) → ((x : ℕ) → Within run (run + n) x → Left bs x) ⊎ Lacks bs run (run + n)
+  lacks-or-not : (n run : ℕ) → ((x : ℕ) → Within run (run + n) x → Spare bs x) ⊎ Lacks bs run (run + n)
   lacks-or-not zero run = inl (λ x d. absurd (omega arith))
-  lacks-or-not (suc n) run = go (lacks-or-not n run) (left-or-not (run + n))
+  lacks-or-not (suc n) run = go (lacks-or-not n run) (spare-or-not (run + n))
     where
-      go : ((x : ℕ) → Within run (run + n) x → Left bs x) ⊎ Lacks bs run (run + n) → Left bs (run + n) ⊎ (Left bs (run + n) → ⊥)
-          → ((x : ℕ) → Within run (run + suc n) x → Left bs x) ⊎ Lacks bs run (run + suc n)
-      go (inr k) y = inr (record { frame = k .frame; within = omega arith; not-left = k .not-left })
-      go (inl f) (inr g) = inr (record { frame = run + n; within = omega arith; not-left = g })
+      go : ((x : ℕ) → Within run (run + n) x → Spare bs x) ⊎ Lacks bs run (run + n) → Spare bs (run + n) ⊎ (Spare bs (run + n) → ⊥)
+          → ((x : ℕ) → Within run (run + suc n) x → Spare bs x) ⊎ Lacks bs run (run + suc n)
+      go (inr k) y = inr (record { frame = k .frame; within = omega arith; not-spare = k .not-spare })
+      go (inl f) (inr g) = inr (record { frame = run + n; within = omega arith; not-spare = g })
       go (inl f) (inl g) = inl (λ x d. side x d (decLt x (run + n)))
         where
-          side : (x : ℕ) → Within run (run + suc n) x → Dec (x < run + n) → Left bs x
+          side : (x : ℕ) → Within run (run + suc n) x → Dec (x < run + n) → Spare bs x
           side x d (yes h) = f x (omega arith)
           side x d (no h) = let q : x ≡ run + n = omega arith in rw q g
 
@@ -88,10 +88,10 @@ module _ {top : ℕ} (bs : List Block) (w : Kept top bs) where
   pub containing-refused : (c run : ℕ) → c ≤ top → Aligned c run → (containing c run bs ≡ Nowhere) ↔ Lacks bs run (run + 2 ^ c)
   containing-refused c run l a = (λ e. search e (lacks-or-not (2 ^ c) run), λ k. go (containing c run bs) refl k)
     where
-      search : containing c run bs ≡ Nowhere → ((x : ℕ) → Within run (run + 2 ^ c) x → Left bs x) ⊎ Lacks bs run (run + 2 ^ c) → Lacks bs run (run + 2 ^ c)
-      search e (inl f) = absurd (none-contains c run bs e (left-held c run l a (λ x d. f x (omega arith))))
+      search : containing c run bs ≡ Nowhere → ((x : ℕ) → Within run (run + 2 ^ c) x → Spare bs x) ⊎ Lacks bs run (run + 2 ^ c) → Lacks bs run (run + 2 ^ c)
+      search e (inl f) = absurd (none-contains c run bs e (spare-held c run l a (λ x d. f x (omega arith))))
       search e (inr k) = k
 
       go : (f : Found) → containing c run bs ≡ f → Lacks bs run (run + 2 ^ c) → containing c run bs ≡ Nowhere
-      go (At i) e k = absurd (k .not-left (held-left (offered (containing-offers c run i bs a e)) (k .frame) (omega (arith, k .within))))
+      go (At i) e k = absurd (k .not-spare (held-spare (offered (containing-offers c run i bs a e)) (k .frame) (omega (arith, k .within))))
       go Nowhere e k = e

@@ -1,4 +1,4 @@
--- What a list of blocks says of frames: which are managed, granted, left; and when nothing of it is left to join.
+-- What a list of blocks says of frames: which are managed, granted, spare; and when nothing is left to join.
 use mathlib.Core.Path.{_≡_}
 use mathlib.Core.Logic.{_↔_}
 use mathlib.Core.Bool.{Bool, true, false}
@@ -38,8 +38,8 @@ pub record Within (s e x : ℕ) : Type 0 where
   pub from : s ≤ x
   pub to : x < e
 
--- "frames added and not granted"
-pub record Left (bs : List Block) (x : ℕ) : Type 0 where
+-- "frames added and not granted": these are the frames of the free blocks
+pub record Spare (bs : List Block) (x : ℕ) : Type 0 where
   pub managed : Managed bs x
   pub not-granted : Covered (Granted bs) x → ⊥
 
@@ -47,7 +47,7 @@ pub record Left (bs : List Block) (x : ℕ) : Type 0 where
 pub record Lacks (bs : List Block) (s e : ℕ) : Type 0 where
   pub frame : ℕ
   pub within : Within s e frame
-  pub not-left : Left bs frame → ⊥
+  pub not-spare : Spare bs frame → ⊥
 
 -- a managed frame lies in [s, e), or next to it
 pub record Touches (s e : ℕ) (bs : List Block) : Type 0 where
@@ -90,7 +90,8 @@ pub record Leaves (top : ℕ) (F : ℕ → Type 0) (G : ℕ → ℕ → Type 0) 
 -- the granted blocks gs are released one after the other, each accepted, and leave `after`
 pub data Releases (top : ℕ) : List Block → List Block → List Block → Type 0 where
   no-more : {bs : List Block} → Releases top [] bs bs
-  and-then : {k s : ℕ} {gs bs after : List Block} → some (isGranted k s) bs ≡ true → Releases top gs (released top k s bs) after → Releases top (blk true k s ∷ gs) bs after
+  and-then : {k s : ℕ} {gs bs after : List Block} → some (isGranted k s) bs ≡ true → Releases top gs (released top k s bs) after
+      → Releases top (blk true k s ∷ gs) bs after
 
 -- no block stands in the list twice
 pub data Distinct : List Block → Type 0 where
