@@ -21,10 +21,14 @@
  *     `words` is 0.
  *   - `words` is the same for a table from its making on: the table does not hold its own length.
  *   - Nobody else reads or writes these words while a call runs: no other thread, no interrupt, no DMA. There is no lock inside.
- *   - `figures` points to three words that are not in the table.
+ *   - `figures` points to three words that are not in the table, and is 8-byte aligned.
  *
- * TIME. Each call reads every lent word once to see that the table is sound, and adding, granting and releasing move at most all
- * records once. So lend no more words than you need.
+ * MACHINES. The library is built for Linux on x86-64 and aarch64, where an answer comes back in two registers. A call needs at most 600
+ * bytes of stack (as compiled for x86-64) beside what memset needs.
+ *
+ * TIME. Each call but the making of a table reads every lent word once to see that the table is sound. Then a grant goes over the
+ * records once more at most, the summary once more, adding takes a step for each piece of the range, up to the room there is, and a
+ * change moves at most all records after it by one step. So lend no more words than you need.
  *
  * POWER LOSS inside a call may leave a table that is half changed. The next call then most often finds it not sound and refuses with
  * LAVIKETY_BAD_STATE; nothing is proved of a call that is cut short. After such a loss make a new table, or go back to a copy.

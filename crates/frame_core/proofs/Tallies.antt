@@ -7,14 +7,11 @@ use native.Mathlib.Nat.{zero-add, add-zero, add-assoc, zero-max, max-zero}
 use native.Mathlib.Omega.{arith}
 use lib.Dec.{eqb}
 use lib.ListN.{length, getD}
-use Rattle.blocks.specs.Blocks.{sizeOf}
-use Rattle.blocks.proofs.Rounding.{size-is}
-use Rattle.rules.specs.Rules.{Block, blk, Sound, none, next, class, granted, blockAt, framesOf, largestFree}
-use Rattle.rules.proofs.Lists.{stands-at}
+use Rattle.rules.specs.Rules.{Block, blk, Sound, none, next, granted, framesOf, largestFree}
 use Rattle.table.specs.Layout.{countOf, markOf, classOf, startOf, blockOf, blocksOf}
 use Rattle.table.specs.Sound.{soundb}
 use Rattle.table.proofs.Facts.{sound-fact}
-use Rattle.table.proofs.State.{sound-blocks, length-blocks, block-at}
+use Rattle.table.proofs.State.{sound-blocks}
 use Rattle.frame_core.specs.Tally.{Tallied, freeOf}
 use Rattle.frame_core.proofs.Records.{from, from-step, from-none}
 
@@ -70,15 +67,6 @@ max-assoc : (a b c : ℕ) → max (max a b) c ≡ max a (max b c)
 max-assoc a b c = omega arith
 
 module _ (t : List ℕ) (sound : soundb t ≡ true) (i count : ℕ) (is : count ≡ countOf (getD t 0 0)) (here : i < count) where
-  -- the size that the code reads for the class of the record
-  pub size-here : (size : ℕ) → size ≡ sizeOf (classOf (getD t (i + 1) 0)) → size ≡ 2 ^ classOf (getD t (i + 1) 0)
-  size-here size e =
-      let x = sound-fact t sound in
-      let n = length-blocks t sound in
-      let h : i < countOf (getD t 0 0) = omega arith in
-      let s = stands-at i (blocksOf t) (sound-blocks t sound) (rw n h) in
-      e ∙ size-is (classOf (getD t (i + 1) 0)) (omega (arith, s .small, ap class (block-at t sound i h)))
-
   module _ {of-granted of-all largest : ℕ} (so-far : Tally t i count of-granted of-all largest) (size free : ℕ) (power : size ≡ 2 ^ classOf (getD t (i + 1) 0))
       (part : free ≡ freeOf (getD t (i + 1) 0) size) where
     step : from t i count ≡ blockOf (getD t (i + 1) 0) ∷ from t (i + 1) count

@@ -41,7 +41,7 @@ pub fn count_frames(t: &[u64]) -> Figures
     let mut i = 0;
     while i < count {
         let w = t[i + 1];
-        let size = blocks::size_of(table::class_of(w));
+        let size = table::end_of(w) - table::start_of(w);
         let free = free_of(w, size);
         granted += size - free;
         managed += size;

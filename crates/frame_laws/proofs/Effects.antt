@@ -45,7 +45,7 @@ test : (P : Decision → Type 0) (b : Bool) (r : Refusal) (cs : List Check) (d :
 test P true r cs d holds fails = holds
 test P false r cs d holds fails = fails refl
 
-neither : (a b : Bool) → a || b ≡ false → (a ≡ false) × (b ≡ false)
+pub neither : (a b : Bool) → a || b ≡ false → (a ≡ false) × (b ≡ false)
 neither true b e = absurd (true≢false e)
 neither false b e = (refl, e)
 

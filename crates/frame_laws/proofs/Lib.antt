@@ -1,3 +1,5 @@
 pub mod Tables
 pub mod Effects
 pub mod Steps
+pub mod Reaching
+pub mod Theorems

@@ -13,7 +13,7 @@ use Rattle.rules.proofs.Freed.{released-leaves}
 use Rattle.rules.proofs.Unique.{unique}
 
 -- the blocks gs are granted in bs
-abbrev AllGranted : List Block → List Block → Type 0
+abbrev pub AllGranted : List Block → List Block → Type 0
 AllGranted gs bs = (b : Block) → b ∈ gs → (b ∈ bs) × (granted b ≡ true)
 
 module _ {top : ℕ} (order : top ≤ 32) where
@@ -48,7 +48,7 @@ module _ {top : ℕ} (order : top ≤ 32) where
       go (blk false j t) (inr n) ih = absurd (true≢false (sym (ih (blk false j t) n .1)))
 
   -- granted blocks may be released in any order, each once
-  all-accepted : (gs bs : List Block) → Sound top 0 bs → Distinct gs → AllGranted gs bs → (after : List Block) × Releases top gs bs after
+  pub all-accepted : (gs bs : List Block) → Sound top 0 bs → Distinct gs → AllGranted gs bs → (after : List Block) × Releases top gs bs after
   all-accepted [] bs r d were = (bs, no-more)
   all-accepted (blk false k s ∷ gs) bs r d were = absurd (true≢false (sym (were (blk false k s) (List·Memᴰ·head refl) .1)))
   all-accepted (blk true k s ∷ gs) bs r (and-once n d) were =

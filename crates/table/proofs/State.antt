@@ -7,7 +7,7 @@ use mathlib.Core.List.{List, [], _∷_, _++_, map}
 use Prim.Native.Nat.{ℕ, zero, suc, _+_, _-_, _%_, _^_, _≤_, _<_}
 use native.Mathlib.Omega.{arith}
 use lib.Dec.{leb, eqb}
-use lib.ListN.{length, take, drop, getD, replicate, take-append-drop, length-drop, length-map, List·getD-map}
+use lib.ListN.{length, take, drop, getD, replicate, take-append-drop, length-drop, length-map, length-replicate, List·getD-map}
 use lib.Pow.{pow-pos}
 use lib.Seq.{slice, slice-cons, length-slice, take-at, drop-at, getD-take, getD-drop}
 use borrow.Author.Tests.{eqb-true, eqb-false, leb-true, le-leb}
@@ -61,6 +61,14 @@ pub head-fits : (order count r : ℕ) → order < 64 → count < 65536
     → ((st : State) → st .order ≡ order % 64 → length (st .blocks) ≡ count % 65536 → r ≡ headOf st)
     → (st : State) → st .order ≡ order → length (st .blocks) ≡ count → r ≡ headOf st
 head-fits order count r h l is st o c = is st (omega arith) (omega arith)
+
+-- what head_word promises admits one number: there is a state with any ORDER and count that fit
+pub head-one : (order count r q : ℕ) → ((st : State) → st .order ≡ order % 64 → length (st .blocks) ≡ count % 65536 → r ≡ headOf st)
+    → ((st : State) → st .order ≡ order % 64 → length (st .blocks) ≡ count % 65536 → q ≡ headOf st) → r ≡ q
+head-one order count r q a b =
+    let st : State = state (order % 64) (replicate (count % 65536) (blk false 0 0)) in
+    let n : length (st .blocks) ≡ count % 65536 = length-replicate (count % 65536) (blk false 0 0) in
+    a st refl n ∙ sym (b st refl n)
 
 -- ---- the records, as blocks and back
 

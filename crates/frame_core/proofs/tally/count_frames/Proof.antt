@@ -1,11 +1,11 @@
 -- `frame_core::tally::count_frames` meets its contract: the figures so far and those of the records to come are the table's. Assumes nothing.
-use mathlib.Core.Path.{ap, _∙_}
-use Prim.Native.Nat.{_-_, _≤_, _<_}
+use mathlib.Core.Path.{_≡_}
+use Prim.Native.Nat.{ℕ, _+_, _-_, _^_, _≤_, _<_}
 use native.Mathlib.Omega.{arith}
-use lib.ListN.{length}
-use Rattle.blocks.specs.Blocks.{sizeOf}
+use lib.ListN.{length, getD}
+use Rattle.table.specs.Layout.{classOf}
 use Rattle.table.proofs.Facts.{sound-fact}
-use Rattle.frame_core.proofs.Tallies.{Tally, begins, ends, size-here, fits, goes-on}
+use Rattle.frame_core.proofs.Tallies.{Tally, begins, ends, fits, goes-on}
 use borrow.Author.Needs.{needs}
 use Rattle.frame_core.proofs.tally.count_frames.Statement.{statement}
 use Rattle.frame_core.proofs.tally.count_frames.Tie as tie
@@ -34,43 +34,52 @@ mul-w c = search needs
 shared-slice-read-w : tie.Need-shared-slice-read-w Inv-loop μ-loop
 shared-slice-read-w c = search needs
 
-class-of-requires : tie.Need-class-of-requires Inv-loop μ-loop
-class-of-requires c κs = search needs
+end-of-requires : tie.Need-end-of-requires Inv-loop μ-loop
+end-of-requires c κs = search needs
 
-size-of-requires : tie.Need-size-of-requires Inv-loop μ-loop
-size-of-requires c κs = search needs
+start-of-requires : tie.Need-start-of-requires Inv-loop μ-loop
+start-of-requires c κs = search needs
+
+sub-size : tie.Need-sub-size Inv-loop μ-loop
+sub-size c = omega (arith, c .start-of .ensures, c .before .end-of .ensures)
 
 free-of-requires : tie.Need-free-of-requires Inv-loop μ-loop
 free-of-requires c κs = search needs
 
 sub-granted : tie.Need-sub-granted Inv-loop μ-loop
 sub-granted c =
-    let l = c .before .before .before .before .before in
+    let f = c in
+    let l = f .before .before .before .before .before in
     let s = l .before in
     let a = s .before .before .before in
-    let k = c .before in
-    let power = size-here (a .args .t .now) (a .pre) (l .loop .i) (s .count-of .result) (s .count-of .ensures) (omega arith) (k .size-of .result) (k .size-of .ensures ∙ ap sizeOf (k .before .class-of .ensures)) in
-    fits (a .args .t .now) (a .pre) (l .loop .i) (s .count-of .result) (s .count-of .ensures) (omega arith) (l .loop .inv .2) (k .size-of .result) (c .free-of .result) power (c .free-of .ensures) .part-of
+    let start = f .before .start-of in
+    let end = f .before .before .end-of in
+    let power : end .result - start .result ≡ 2 ^ classOf (getD (a .args .t .now) (l .loop .i + 1) 0) = omega (arith, start .ensures, end .ensures) in
+    fits (a .args .t .now) (a .pre) (l .loop .i) (s .count-of .result) (s .count-of .ensures) (omega arith) (l .loop .inv .2) (end .result - start .result) (f .free-of .result) power (f .free-of .ensures) .part-of
 
 add-granted : tie.Need-add-granted Inv-loop μ-loop
 add-granted c =
-    let l = c .before .before .before .before .before in
+    let f = c in
+    let l = f .before .before .before .before .before in
     let s = l .before in
     let a = s .before .before .before in
-    let k = c .before in
-    let power = size-here (a .args .t .now) (a .pre) (l .loop .i) (s .count-of .result) (s .count-of .ensures) (omega arith) (k .size-of .result) (k .size-of .ensures ∙ ap sizeOf (k .before .class-of .ensures)) in
-    let f = fits (a .args .t .now) (a .pre) (l .loop .i) (s .count-of .result) (s .count-of .ensures) (omega arith) (l .loop .inv .2) (k .size-of .result) (c .free-of .result) power (c .free-of .ensures) in
-    record { fits = omega (arith, f .granted-fit) }
+    let start = f .before .start-of in
+    let end = f .before .before .end-of in
+    let power : end .result - start .result ≡ 2 ^ classOf (getD (a .args .t .now) (l .loop .i + 1) 0) = omega (arith, start .ensures, end .ensures) in
+    let z = fits (a .args .t .now) (a .pre) (l .loop .i) (s .count-of .result) (s .count-of .ensures) (omega arith) (l .loop .inv .2) (end .result - start .result) (f .free-of .result) power (f .free-of .ensures) in
+    record { fits = omega (arith, z .granted-fit) }
 
 add-managed : tie.Need-add-managed Inv-loop μ-loop
 add-managed c =
-    let l = c .before .before .before .before .before in
+    let f = c in
+    let l = f .before .before .before .before .before in
     let s = l .before in
     let a = s .before .before .before in
-    let k = c .before in
-    let power = size-here (a .args .t .now) (a .pre) (l .loop .i) (s .count-of .result) (s .count-of .ensures) (omega arith) (k .size-of .result) (k .size-of .ensures ∙ ap sizeOf (k .before .class-of .ensures)) in
-    let f = fits (a .args .t .now) (a .pre) (l .loop .i) (s .count-of .result) (s .count-of .ensures) (omega arith) (l .loop .inv .2) (k .size-of .result) (c .free-of .result) power (c .free-of .ensures) in
-    record { fits = omega (arith, f .managed-fit) }
+    let start = f .before .start-of in
+    let end = f .before .before .end-of in
+    let power : end .result - start .result ≡ 2 ^ classOf (getD (a .args .t .now) (l .loop .i + 1) 0) = omega (arith, start .ensures, end .ensures) in
+    let z = fits (a .args .t .now) (a .pre) (l .loop .i) (s .count-of .result) (s .count-of .ensures) (omega arith) (l .loop .inv .2) (end .result - start .result) (f .free-of .result) power (f .free-of .ensures) in
+    record { fits = omega (arith, z .managed-fit) }
 
 larger-requires : tie.Need-larger-requires Inv-loop μ-loop
 larger-requires c κs = search needs
@@ -83,12 +92,14 @@ loop-less c = search needs
 
 loop-again : tie.Need-loop-again Inv-loop μ-loop
 loop-again c =
-    let l = c .before .before .before .before .before .before in
+    let f = c .before in
+    let l = f .before .before .before .before .before in
     let s = l .before in
     let a = s .before .before .before in
-    let k = c .before .before in
-    let power = size-here (a .args .t .now) (a .pre) (l .loop .i) (s .count-of .result) (s .count-of .ensures) (omega arith) (k .size-of .result) (k .size-of .ensures ∙ ap sizeOf (k .before .class-of .ensures)) in
-    (omega arith, omega arith, goes-on (a .args .t .now) (a .pre) (l .loop .i) (s .count-of .result) (s .count-of .ensures) (omega arith) (l .loop .inv .2) (k .size-of .result) (c .before .free-of .result) power (c .before .free-of .ensures) (c .larger .result) (c .larger .ensures))
+    let start = f .before .start-of in
+    let end = f .before .before .end-of in
+    let power : end .result - start .result ≡ 2 ^ classOf (getD (a .args .t .now) (l .loop .i + 1) 0) = omega (arith, start .ensures, end .ensures) in
+    (omega arith, omega arith, goes-on (a .args .t .now) (a .pre) (l .loop .i) (s .count-of .result) (s .count-of .ensures) (omega arith) (l .loop .inv .2) (end .result - start .result) (f .free-of .result) power (f .free-of .ensures) (c .larger .result) (c .larger .ensures))
 
 returns : tie.Need-returns Inv-loop μ-loop
 returns c =
@@ -108,8 +119,9 @@ count-frames-spec =
     add-w
     mul-w
     shared-slice-read-w
-    class-of-requires
-    size-of-requires
+    end-of-requires
+    start-of-requires
+    sub-size
     free-of-requires
     sub-granted
     add-granted
