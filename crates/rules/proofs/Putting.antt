@@ -1,18 +1,19 @@
 -- One free block put into a list, or one block taken out of it: what that does to frames, grants, and what is left to join. Assumes nothing.
 use mathlib.Core.Path.{_≡_, refl, sym, _∙_}
 use mathlib.Core.Logic.{_⊎_, _↔_, inl, inr, ⊎-elim, Iff·trans}
-use mathlib.Core.Bool.{Bool, true, false, true≢false}
-use mathlib.Core.List.{List}
-use Prim.Native.Nat.{ℕ, _<_}
+use mathlib.Core.Bool.{Bool, true, false, not, _&&_, true≢false}
+use mathlib.Core.List.{List, [], List·Memᴰ·not-nil}
+use Prim.Native.Nat.{ℕ}
 use native.Mathlib.Omega.{arith}
-use borrow.Author.Tests.{eq-eqb}
+use lib.Dec.{eqb}
+use borrow.Author.Tests.{eqb-true, eq-eqb}
 use Rattle.rules.specs.Aligned.{Covers}
 use Rattle.rules.specs.Largest.{Joined}
-use Rattle.rules.specs.Rules.{Block, blk, Sound, some, without, insert, isFree, isGranted}
+use Rattle.rules.specs.Rules.{Block, blk, Sound, none, some, without, insert, isFree, isGranted}
 use Rattle.rules.specs.Managed.{_∈_, Free, Granted, Managed, Kept, Leaves}
 use Rattle.rules.proofs.Aligned.{meets-at, meets-frame}
 use Rattle.rules.proofs.Largest.{Alone, joined-more}
-use Rattle.rules.proofs.Lists.{free-picks, granted-picks}
+use Rattle.rules.proofs.Lists.{both}
 use Rattle.rules.proofs.Members.{is-block, same-block, marks-differ, Fits, members-apart, some-passes, some-member, in-insert, insert-has, insert-sound, in-without, without-has, without-sound}
 
 -- ---- frames
@@ -47,6 +48,13 @@ leaves-as f g p w = record {
 pub leaves-kept : {top : ℕ} {F : ℕ → Type 0} {G : ℕ → ℕ → Type 0} {P : Type 0} {after : List Block} → Leaves top F G P after → P → Kept top after
 leaves-kept w p = record { sound = w .sound; joined = w .joined p }
 
+-- a fresh table: it has nothing to join, and manages no frame
+pub kept-none : {top : ℕ} → Kept top []
+kept-none = record { sound = none; joined = record { never = λ l p x y. List·Memᴰ·not-nil x } }
+
+pub none-managed : {x : ℕ} → Managed [] x → ⊥
+none-managed m = List·Memᴰ·not-nil (m .member)
+
 -- ---- one free block put in
 
 pub put : {top : ℕ} (k s : ℕ) (bs : List Block) → Sound top 0 bs → Fits top k s → ((x : ℕ) → Managed bs x → Covers k s x → ⊥)
@@ -73,23 +81,34 @@ put {top} k s bs r fits clear = record {
 abbrev pub Knows : (Block → Bool) → Bool → ℕ → ℕ → Type 0
 Knows p g k s = (b : Block) → (p b ≡ true) ↔ (b ≡ blk g k s)
 
+knows-block : (p : Block → Bool) (g : Bool) (k s : ℕ) → ((j t : ℕ) → p (blk g j t) ≡ (eqb j k && eqb t s)) → ((j t : ℕ) → p (blk (not g) j t) ≡ false) → Knows p g k s
+knows-block p g k s own other (blk h j t) = go g h own other
+  where
+    is : (g : Bool) → p (blk g j t) ≡ (eqb j k && eqb t s) → (p (blk g j t) ≡ true) ↔ (blk g j t ≡ blk g k s)
+    is g q = (
+      λ e. let w = both (eqb j k) (eqb t s) (sym q ∙ e) in same-block (record { class = eqb-true j k (w .0); start = eqb-true t s (w .1) }),
+      λ e. let w = is-block e in q ∙ rw (eq-eqb j k (w .class), eq-eqb t s (w .start)) refl,
+    )
+
+    go : (g h : Bool) → ((j t : ℕ) → p (blk g j t) ≡ (eqb j k && eqb t s)) → ((j t : ℕ) → p (blk (not g) j t) ≡ false)
+        → (p (blk h j t) ≡ true) ↔ (blk h j t ≡ blk g k s)
+    go true true own other = is true (own j t)
+    go false false own other = is false (own j t)
+    go true false own other = (λ e. absurd (true≢false (sym e ∙ other j t)), λ e. absurd (marks-differ (sym e)))
+    go false true own other = (λ e. absurd (true≢false (sym e ∙ other j t)), λ e. absurd (marks-differ e))
+
 pub knows-free : (k s : ℕ) → Knows (isFree k s) false k s
-knows-free k s (blk true j t) = (λ e. absurd (true≢false (sym e)), λ e. absurd (marks-differ e))
-knows-free k s (blk false j t) = (
-  λ e. let w = free-picks k s false j t e in same-block (record { class = w .0; start = w .1 }),
-  λ e. let w = is-block e in rw (eq-eqb j k (w .class), eq-eqb t s (w .start)) refl,
-)
+knows-free k s = knows-block (isFree k s) false k s (λ j t. refl) (λ j t. refl)
 
 pub knows-granted : (k s : ℕ) → Knows (isGranted k s) true k s
-knows-granted k s (blk false j t) = (λ e. absurd (true≢false (sym e)), λ e. absurd (marks-differ (sym e)))
-knows-granted k s (blk true j t) = (
-  λ e. let w = granted-picks k s true j t e in same-block (record { class = w .0; start = w .1 }),
-  λ e. let w = is-block e in rw (eq-eqb j k (w .class), eq-eqb t s (w .start)) refl,
-)
+knows-granted k s = knows-block (isGranted k s) true k s (λ j t. refl) (λ j t. refl)
 
 -- that some block passes says that the list has it
 pub known : {bs : List Block} {g : Bool} {k s : ℕ} (p : Block → Bool) → Knows p g k s → (some p bs ≡ true) ↔ (blk g k s ∈ bs)
-known {bs} {g} {k} {s} p knows = (λ e. let w = some-passes p bs e in rw (knows (w .block) .0 (w .passes)) at (w .member), λ m. some-member p m (knows (blk g k s) .1 refl))
+known {bs} {g} {k} {s} p knows = (
+  λ e. let w = some-passes p bs e in rw (knows (w .block) .0 (w .passes)) at (w .member),
+  λ m. some-member p m (knows (blk g k s) .1 refl),
+)
 
 -- the list without the block of class k at s, which it had with the mark g
 pub record Without (top : ℕ) (bs : List Block) (g : Bool) (k s : ℕ) (cs : List Block) : Type 0 where
