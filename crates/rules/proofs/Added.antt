@@ -16,8 +16,9 @@ use Rattle.rules.specs.Largest.{Joined}
 use Rattle.rules.specs.Rules.{Block, blk, Sound, some, insertAll, cutFrom, cut, added, overlaps}
 use Rattle.rules.specs.Managed.{Free, Granted, Managed, Within, Touches, Leaves}
 use Rattle.rules.proofs.Pieces.{Range, piece-fits, rest-range, piece-size}
+use Rattle.rules.proofs.Largest.{Alone}
 use Rattle.rules.proofs.Members.{Fits, some-fails}
-use Rattle.rules.proofs.Putting.{managed-by, leaves-as, put}
+use Rattle.rules.proofs.Putting.{managed-by, holder, leaves-as, put}
 
 -- what cutting [s, e) leaves of a list that has no frame of it
 abbrev Cuts : ℕ → ℕ → ℕ → List Block → List Block → Type 0
@@ -38,13 +39,12 @@ module _ {top : ℕ} (s e p k : ℕ) (bs rest : List Block) (size : p ≡ 2 ^ k)
   piece-clear x m c = ⊎-elim (λ n. clear x n (omega arith)) (λ d. omega arith) (w .frames x .0 m)
 
   -- a free buddy of the piece would touch the range, or be a part of it, and then the piece were larger
-  piece-alone : (Touches s e bs → ⊥) → (b : ℕ) → k < top → Buddies k s b → Free rest k b → ⊥
+  piece-alone : (Touches s e bs → ⊥) → Alone top (Free rest) k s
   piece-alone apart b l pairs m = go pairs
     where
       old : (x : ℕ) → Covers k b x → s ≤ suc x → x ≤ e → (Within (s + p) e x → ⊥) → ⊥
       old x c f t n =
-          ⊎-elim (λ o. apart (record { frame = x; managed = o; from = f; to = t })) n
-          (w .frames x .0 (managed-by m c))
+          ⊎-elim (λ o. apart (record { frame = x; managed = o; from = f; to = t })) n (w .frames x .0 (managed-by m c))
 
       above : (s % 2 ^ suc k ≡ 0) → b ≡ s + 2 ^ k → Dec (s + 2 ^ suc k ≤ e) → ⊥
       above a q (yes h) = largest l a h
@@ -127,6 +127,6 @@ added-leaves {top} s e bs order h l r f = cutting (e - s) top s (e - s) e bs (om
   where
     clear : (x : ℕ) → Managed bs x → Within s e x → ⊥
     clear x m d =
-        let y : overlaps s e (blk (m .granted) (m .class) (m .start)) ≡ true =
+        let y : overlaps s e (holder m) ≡ true =
         rw (lt-ltb s e (omega arith), lt-ltb (m .start) e (omega (arith, m .covers)), lt-ltb s (m .start + 2 ^ m .class) (omega (arith, m .covers))) refl in
         true≢false (sym y ∙ some-fails (overlaps s e) f (m .member))

@@ -81,7 +81,8 @@ put {top} k s bs r fits clear = record {
 abbrev pub Knows : (Block → Bool) → Bool → ℕ → ℕ → Type 0
 Knows p g k s = (b : Block) → (p b ≡ true) ↔ (b ≡ blk g k s)
 
-knows-block : (p : Block → Bool) (g : Bool) (k s : ℕ) → ((j t : ℕ) → p (blk g j t) ≡ (eqb j k && eqb t s)) → ((j t : ℕ) → p (blk (not g) j t) ≡ false) → Knows p g k s
+knows-block : (p : Block → Bool) (g : Bool) (k s : ℕ) → ((j t : ℕ) → p (blk g j t) ≡ (eqb j k && eqb t s)) → ((j t : ℕ) → p (blk (not g) j t) ≡ false)
+    → Knows p g k s
 knows-block p g k s own other (blk h j t) = go g h own other
   where
     is : (g : Bool) → p (blk g j t) ≡ (eqb j k && eqb t s) → (p (blk g j t) ≡ true) ↔ (blk g j t ≡ blk g k s)

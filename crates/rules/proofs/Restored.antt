@@ -63,14 +63,15 @@ offered {c} {run} {i} {bs} o = go (blockAt i bs) (at-place i bs (o .here)) (o .f
 
 -- ---- a grant and its release
 
+-- the release is accepted
+pub grant-granted : {top : ℕ} (c run i : ℕ) (bs : List Block) → Sound top 0 bs → Offers c run i bs → some (isGranted c run) (halved c run i bs) ≡ true
+grant-granted c run i bs r o =
+    known (isGranted c run) (knows-granted c run) .1 (halved-leaves c run i bs r o .granted c run .1 (inl (record { class = refl; start = refl })))
+
 module _ {top : ℕ} (order : top ≤ 32) (bs : List Block) (w : Kept top bs) where
   module _ (c run i : ℕ) (o : Offers c run i bs) where
     grant : Leaves top (Managed bs) (λ k s. Is c run k s ⊎ Granted bs k s) (Joined top (Free bs)) (halved c run i bs)
     grant = halved-leaves c run i bs (w .sound) o
-
-    -- the release is accepted
-    pub grant-granted : some (isGranted c run) (halved c run i bs) ≡ true
-    grant-granted = known (isGranted c run) (knows-granted c run) .1 (grant .granted c run .1 (inl (record { class = refl; start = refl })))
 
     -- the run was not granted before
     fresh : {k s : ℕ} → Granted bs k s → Is c run k s → ⊥
@@ -87,7 +88,7 @@ module _ {top : ℕ} (order : top ≤ 32) (bs : List Block) (w : Kept top bs) wh
         v = leaves-as (grant .frames)
             (λ k s.
             (λ m. ⊎-elim (λ e. absurd (m .1 e)) (λ n. n) (grant .granted k s .0 (m .0)), λ m. (grant .granted k s .1 (inr m), fresh m)))
-            (grant .joined) (released-leaves order c run (halved c run i bs) (grant .sound) grant-granted)
+            (grant .joined) (released-leaves order c run (halved c run i bs) (grant .sound) (grant-granted c run i bs (w .sound) o))
 
   pub served-restored : (c i : ℕ) → serving top c bs ≡ At i → released top c (start (blockAt i bs)) (halved c (start (blockAt i bs)) i bs) ≡ bs
   served-restored c i e = restored c (start (blockAt i bs)) i (serving-offers c i bs (w .sound) e)
