@@ -1,0 +1,3 @@
+pub mod Going
+pub mod Showing
+pub mod Whole

@@ -1,0 +1,86 @@
+-- What a command of `calls` prints and leaves, from docs/RULES.md, "The lines of `calls`".
+use mathlib.Core.Bool.{Bool, true, false}
+use mathlib.Core.List.{List, [], _∷_}
+use mathlib.Core.Path.{_≡_}
+use Prim.Native.Nat.{ℕ, _+_}
+use lib.ListN.{length, take}
+use Rattle.answers.specs.Paper.{paper}
+use Rattle.frame.specs.Outcome as frame
+use Rattle.frame_core.specs.Carried.{Reply, Outcome}
+use Rattle.lines.specs.Bytes.{bytes}
+use Rattle.lines.specs.Command.{commandOf}
+use Rattle.lines.specs.Gather.{Reading, fed, lastLine}
+use Rattle.lines.specs.Put.{Put}
+use Rattle.lines.specs.Text.{replyText}
+use Rattle.lines.specs.declared.Command.{Command}
+use Rattle.lines.specs.declared.Command.the-variants.{Order, Add, Alloc, At, Free, Bad}
+use Rattle.calls.specs.declared.Printed.{Printed}
+use Rattle.calls.specs.declared.Printed.the-variants.{Reply as Printed·reply, BadLine}
+
+abbrev pub badLine : List ℕ
+badLine = bytes "bad line\n"
+
+abbrev pub first : List ℕ → ℕ
+first [] = 0
+first (v ∷ vs) = v
+
+-- the line of a reply, with its value or without
+abbrev pub replyLine : Reply → Bool → List ℕ
+replyLine r valued = replyText (r .number) (first (r .values)) valued
+
+-- "Its commands are `order N` (makes the table anew), `add S E`, `alloc N`, `at S N`, `free S N`"; a bad line leaves the table
+abbrev pub outcomeOf : Command → List ℕ → Outcome
+outcomeOf (Order n) ws = frame.making n ws
+outcomeOf (Add s e) ws = frame.outcome (frame.Add s e) ws
+outcomeOf (Alloc n) ws = frame.outcome (frame.Alloc n) ws
+outcomeOf (At s n) ws = frame.outcome (frame.AllocAt s n) ws
+outcomeOf (Free s n) ws = frame.outcome (frame.Dealloc s n) ws
+outcomeOf Bad ws = record { reply = record { number = 0; values = [] }; words = ws }
+
+-- the words of the table afterwards
+abbrev pub wordsAfter : Command → List ℕ → List ℕ
+wordsAfter c ws = outcomeOf c ws .words
+
+-- "It prints `ok`, a start, or `no` and the number": a start for the two grants; "else it prints `bad line`"
+abbrev pub lineFor : Command → Reply → List ℕ
+lineFor (Order n) r = replyLine r false
+lineFor (Add s e) r = replyLine r false
+lineFor (Alloc n) r = replyLine r true
+lineFor (At s n) r = replyLine r true
+lineFor (Free s n) r = replyLine r false
+lineFor Bad r = badLine
+
+abbrev pub printed : Command → List ℕ → List ℕ
+printed c ws = lineFor c (outcomeOf c ws .reply)
+
+-- the line that the code has to print, from what it got
+abbrev pub lineOf : Printed → List ℕ
+lineOf (Printed·reply a valued) = replyText (paper a .number) (paper a .value) valued
+lineOf BadLine = badLine
+
+-- a text stands whole in a buffer, from some place on
+pub record Shown (text buffer : List ℕ) (after : ℕ) (left : List ℕ) : Type 0 where
+  pub from : ℕ
+  pub put : Put text buffer from after left
+  pub whole : after ≡ from + length text
+
+-- ---- line after line
+
+abbrev pub wordsAfterAll : List (List ℕ) → List ℕ → List ℕ
+wordsAfterAll [] ws = ws
+wordsAfterAll (l ∷ ls) ws = wordsAfterAll ls (wordsAfter (commandOf l) ws)
+
+-- a buffer holds a line by its first 81 bytes, which say as much as all of it does (lines/proofs/Feeding, `held-enough`)
+abbrev pub Holds : List ℕ → ℕ → List ℕ → Type 0
+Holds held len line = take len held ≡ take 81 line
+
+-- A chunk of the input read behind whatever line is held: the lines that end in it were run, and the buffer holds the one that is open.
+abbrev pub Took : List ℕ → List ℕ → ℕ → List ℕ → List ℕ → ℕ → List ℕ → Type 0
+Took chunk held len words held′ len′ words′ =
+    (line : List ℕ) → Holds held len line
+    → Holds held′ len′ (fed (record { done = []; held = line }) chunk .held)
+    × (words′ ≡ wordsAfterAll (fed (record { done = []; held = line }) chunk .done) words)
+
+-- at the input's end what is held is a line, unless nothing is
+abbrev pub Ended : List ℕ → ℕ → List ℕ → List ℕ → Type 0
+Ended held len words words′ = (line : List ℕ) → Holds held len line → words′ ≡ wordsAfterAll (lastLine line) words
