@@ -49,6 +49,14 @@ pub neither : (a b : Bool) → a || b ≡ false → (a ≡ false) × (b ≡ fals
 neither true b e = absurd (true≢false e)
 neither false b e = (refl, e)
 
+-- what is left of the checks of a grant once its class is known to be small enough, and what it decides
+module _ (room : ℕ) (bs : List Block) where
+  abbrev pub rest : Found → (Block → ℕ) → ℕ → List Check
+  rest f run k = refuse (isNowhere f) NoBlock ∷ noRoom room (grantedFrom f run k bs) ∷ []
+
+  abbrev pub given : Found → (Block → ℕ) → ℕ → Decision
+  given f run k = done (run (blockAt (placeIn f) bs) ∷ []) (grantedFrom f run k bs)
+
 module _ (order room : ℕ) (bs : List Block) (low : 1 ≤ order) (high : order ≤ 33) (sound : Sound (order - 1) 0 bs) (fits : length bs ≤ room) where
   abbrev Has : Call → Decision → Type 0
   Has c d = Effect (order - 1) room bs c d
@@ -69,27 +77,20 @@ module _ (order room : ℕ) (bs : List Block) (low : 1 ≤ order) (high : order 
 
   -- a grant from the block that was found
   found-effect : {c : Call} {k : ℕ} → Grants c k → (run : Block → ℕ) (f : Found) → ((i : ℕ) → f ≡ At i → Offers k (run (blockAt i bs)) i bs)
-      → Has c (judge (refuse (isNowhere f) NoBlock ∷ noRoom room (grantedFrom f run k bs) ∷ []) (done (run (blockAt (placeIn f) bs) ∷ []) (grantedFrom f run k bs)))
+      → Has c (judge (rest room bs f run k) (given room bs f run k))
   found-effect g run Nowhere offers = refuses {r = NoBlock} (omega arith)
   found-effect {c} {k} g run (At i) offers =
       test (Has c) (ltb room (length (halved k (run (blockAt i bs)) i bs))) NoRoom [] (done (run (blockAt i bs) ∷ []) (halved k (run (blockAt i bs)) i bs)) (refuses {r = NoRoom} (omega arith))
       (λ enough.
       let o = offers i refl in
       grants g (halved-leaves k (run (blockAt i bs)) i bs sound o) (ltb-false room _ enough)
-      (λ w. (grant-granted (omega arith) bs w k (run (blockAt i bs)) i o, restored (omega arith) bs w k (run (blockAt i bs)) i o)))
-
-  -- what is left of the checks of a grant, once its class is known to be small enough
-  abbrev rest : Found → (Block → ℕ) → ℕ → List Check
-  rest f run k = refuse (isNowhere f) NoBlock ∷ noRoom room (grantedFrom f run k bs) ∷ []
-
-  abbrev given : Found → (Block → ℕ) → ℕ → Decision
-  given f run k = done (run (blockAt (placeIn f) bs) ∷ []) (grantedFrom f run k bs)
+      (λ w. (grant-granted k (run (blockAt i bs)) i bs sound o, restored (omega arith) bs w k (run (blockAt i bs)) i o)))
 
   granting-effect : {c : Call} {k : ℕ} → Requests c k → Has c (granting k order room bs)
   unfolding granting
   granting-effect {c} {k} r =
       let f : Found = serving (order - 1) k bs in
-      test (Has c) (leb order k) NoBlock (rest f start k) (given f start k) (refuses {r = NoBlock} (omega arith))
+      test (Has c) (leb order k) NoBlock (rest room bs f start k) (given room bs f start k) (refuses {r = NoBlock} (omega arith))
       (λ l. found-effect (any r) start f (λ i e. serving-offers k i bs sound e))
 
   granting-at-effect : (s n : ℕ) → Has (AllocAt s n) (grantingAt s (wanted (rounded n)) order room bs)
@@ -98,9 +99,9 @@ module _ (order room : ℕ) (bs : List Block) (low : 1 ≤ order) (high : order 
       let k : ℕ = wanted (rounded n) in
       let f : Found = containing k s bs in
       let misaligned : Bool = not (eqb (s % 2 ^ k) 0) in
-      test (Has (AllocAt s n)) (leb order k) NoBlock (refuse misaligned Misaligned ∷ rest f (λ b. s) k) (given f (λ b. s) k) (refuses {r = NoBlock} (omega arith))
+      test (Has (AllocAt s n)) (leb order k) NoBlock (refuse misaligned Misaligned ∷ rest room bs f (λ b. s) k) (given room bs f (λ b. s) k) (refuses {r = NoBlock} (omega arith))
       (λ l.
-      test (Has (AllocAt s n)) misaligned Misaligned (rest f (λ b. s) k) (given f (λ b. s) k) (refuses {r = Misaligned} (omega arith))
+      test (Has (AllocAt s n)) misaligned Misaligned (rest room bs f (λ b. s) k) (given room bs f (λ b. s) k) (refuses {r = Misaligned} (omega arith))
       (λ m.
       let a : Aligned k s = record { multiple = eqb-true (s % 2 ^ k) 0 (not-false _ m) } in
       found-effect (alloc-at s n) (λ b. s) f (λ i e. containing-offers k s i bs a e)))

@@ -11,10 +11,12 @@ use borrow.Author.Tests.{ltb-false}
 use Rattle.rules.specs.Largest.{Covered}
 use Rattle.rules.specs.Rules.{Block, Sound, none}
 use Rattle.rules.specs.Managed.{Granted, Spare, Kept}
+use Rattle.rules.proofs.Unique.{free-are-largest, largest-same}
 use Rattle.table.proofs.State.{state}
 use Rattle.frame.specs.Outcome.{making}
 use Rattle.frame_laws.specs.History.{World, Reached, fresh, NoTouch, FreeFrame}
-use Rattle.frame_laws.proofs.Tables.{Stands}
+use Rattle.frame_laws.specs.Demand3 as say
+use Rattle.frame_laws.proofs.Tables.{Stands, stands-blocks}
 use Rattle.frame_laws.proofs.Effects.{neither}
 use Rattle.frame_laws.proofs.Steps.{Known, after-known}
 
@@ -24,8 +26,8 @@ unfolding making
 fresh-known order lent e = go (ltb order 1 || ltb 33 order) refl (ltb (length lent) 1 || ltb 65536 (length lent)) refl
   where
     go : (a : Bool) → (ltb order 1 || ltb 33 order) ≡ a → (b : Bool) → (ltb (length lent) 1 || ltb 65536 (length lent)) ≡ b → Known (length lent) order (fresh order lent)
-    go true p b q = let z : 1 ≡ 0 = rw p at e in absurd (omega arith)
-    go false p true q = let z : 2 ≡ 0 = rw (p, q) at e in absurd (omega arith)
+    go true p b q = let z : _≡_ {A = ℕ} 1 0 = rw p at e in absurd (omega arith)
+    go false p true q = let z : _≡_ {A = ℕ} 2 0 = rw (p, q) at e in absurd (omega arith)
     go false p false q =
         let o = neither (ltb order 1) (ltb 33 order) p in
         let m = neither (ltb (length lent) 1) (ltb 65536 (length lent)) q in
@@ -55,3 +57,10 @@ module _ {n order : ℕ} {w : World} (k : Known n order w) where
     λ s. record { added = k .frames x .0 (s .managed); not-granted = λ c. s .not-granted (record { class = c .class; start = c .start; member = k .grants (c .class) (c .start) .1 (c .member); covers = c .covers }) },
     λ f. record { managed = k .frames x .1 (f .added); not-granted = λ c. f .not-granted (record { class = c .class; start = c .start; member = k .grants (c .class) (c .start) .0 (c .member); covers = c .covers }) },
   )
+
+-- 1
+pub free-blocks-are-largest : say.FreeBlocksAreLargest
+free-blocks-are-largest order w r apart k s =
+    let q = reached r in
+    let l = free-are-largest (kept q apart) k s in
+    rw (stands-blocks (q .stands)) (λ f. largest-same (spare-frames q) (l .0 f), λ g. l .1 (largest-same (λ x. (spare-frames q x .1, spare-frames q x .0)) g))
