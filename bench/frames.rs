@@ -14,6 +14,9 @@ struct Answer {
 }
 
 extern "C" {
+    fn lavikety_frame_new(t: *mut u64, words: usize, order: u64) -> Answer;
+    fn lavikety_frame_add(t: *mut u64, words: usize, start: u64, end: u64) -> Answer;
+    fn lavikety_frame_summary(t: *const u64, words: usize, figures: *mut u64) -> u64;
     fn lavikety_frame_alloc(t: *mut u64, words: usize, count: u64) -> Answer;
     fn lavikety_frame_alloc_at(t: *mut u64, words: usize, start: u64, count: u64) -> Answer;
     fn lavikety_frame_dealloc(t: *mut u64, words: usize, start: u64, count: u64) -> Answer;
@@ -138,6 +141,29 @@ fn row(words: usize, records: usize) {
     );
 }
 
+/// The summary, against the scalar test; making a table and adding frames 1 to 2^32 - 2, 62 pieces, against the crate's.
+fn other_row(words: usize, records: usize) {
+    let t = table(words, &blocks(records));
+    let mut made = vec![0u64; words];
+    let (p, q, turns) = (t.as_ptr(), made.as_mut_ptr(), (400_000 / words).max(4));
+    let mut figures = [0u64; 3];
+    let last = (1usize << 32) - 1;
+    let times = least(turns, &mut [
+        &mut || assert!(unsafe { lavikety_frame_summary(black_box(p), words, figures.as_mut_ptr()) } == 0),
+        &mut || assert!(soundness::gathered(black_box(&t))),
+        &mut || unsafe {
+            lavikety_frame_new(black_box(q), words, 33);
+            assert!(lavikety_frame_add(black_box(q), words, 1, last as u64).number == 0);
+        },
+        &mut || {
+            let mut real = FrameAllocator::<33>::new();
+            real.add_frame(black_box(1), last);
+            black_box(&real);
+        },
+    ]);
+    println!("{words:6} {records:7}  {:8.0} {:5.2}  {:8.0} {:7.2}", times[0], times[0] / times[1], times[2], times[2] / times[3]);
+}
+
 fn main() {
     println!("ns: nanoseconds, the least of {ROUNDS} rounds. A call is half of a grant and its release. Ratios are of this run.");
     println!("                 soundness test, ours               alloc + dealloc          alloc_at + dealloc");
@@ -145,5 +171,11 @@ fn main() {
     for words in [64, 1024, 4096, 65536] {
         row(words, words - 1 - 8);
         row(words, 8);
+    }
+    println!("                 summary          new + add of 62 pieces");
+    println!(" words records        ns scalar        ns   crate");
+    for words in [64, 1024, 4096, 65536] {
+        other_row(words, words - 1 - 8);
+        other_row(words, 8);
     }
 }
