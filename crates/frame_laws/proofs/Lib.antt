@@ -6,3 +6,5 @@ pub mod Restoring
 pub mod Wanting
 pub mod Keeping
 pub mod Touching
+pub mod Chained
+pub mod Whole

@@ -16,7 +16,7 @@ use Rattle.table.proofs.State.{state}
 use Rattle.frame.specs.Outcome.{making}
 use Rattle.frame_laws.specs.History.{World, Reached, fresh, NoTouch, FreeFrame}
 use Rattle.frame_laws.specs.Demand3 as say
-use Rattle.frame_laws.proofs.Tables.{Stands, stands-blocks}
+use Rattle.frame_laws.proofs.Tables.{Stands, stands-blocks, stands-sound}
 use Rattle.frame_laws.proofs.Effects.{neither}
 use Rattle.frame_laws.proofs.Steps.{Known, after-known}
 
@@ -45,6 +45,19 @@ fresh-known order lent e = go (ltb order 1 || ltb 33 order) refl (ltb (length le
 
 pub reached : {order : ℕ} {w : World} (r : Reached order w) → Known (length (r .lent)) order w
 reached {order} r = subst (Known (length (r .lent)) order) (sym (r .is)) (after-known (r .calls) (fresh order (r .lent)) (fresh-known order (r .lent) (r .made)))
+
+-- a table that was just made is sound, and one that was not made has its words
+pub made-is-sound : say.MadeIsSound
+made-is-sound order lent e = stands-sound (fresh-known order lent e .stands)
+
+pub refused-making : say.RefusedMaking
+unfolding making
+refused-making order lent n = go (ltb order 1 || ltb 33 order) refl (ltb (length lent) 1 || ltb 65536 (length lent)) refl
+  where
+    go : (a : Bool) → (ltb order 1 || ltb 33 order) ≡ a → (b : Bool) → (ltb (length lent) 1 || ltb 65536 (length lent)) ≡ b → making order lent .words ≡ lent
+    go true p b q = rw p refl
+    go false p true q = rw (p, q) refl
+    go false p false q = absurd (n (rw (p, q) refl))
 
 module _ {n order : ℕ} {w : World} (k : Known n order w) where
   -- nothing is left to join, where no two ranges touch

@@ -3,20 +3,20 @@ use mathlib.Core.Path.{_≡_}
 use mathlib.Core.Logic.{_↔_}
 use mathlib.Core.Bool.{true}
 use mathlib.Core.List.{List, [], _∷_}
-use Prim.Native.Nat.{ℕ, _+_, _-_, _^_, _≤_, _<_}
+use Prim.Native.Nat.{ℕ, suc, _-_, _≤_, _<_}
 use lib.ListN.{getD}
 use Rattle.blocks.specs.Blocks.{rounded, roundedAligned, isPowerOfTwo}
 use Rattle.rules.specs.Aligned.{Aligned, Covers}
 use Rattle.rules.specs.Largest.{Whole, Largest}
 use Rattle.rules.specs.Rules.{Block, blk}
-use Rattle.rules.specs.Managed.{_∈_, Free, Distinct, Kept, Touches}
+use Rattle.rules.specs.Managed.{_∈_, Free, Distinct, Kept, Touches, Within}
 use Rattle.table.specs.Layout.{orderOf, blocksOf}
 use Rattle.table.specs.Sound.{soundb}
 use Rattle.frame_core.specs.Deciding.{wanted}
 use Rattle.frame_core.specs.Carried.{Reply, Outcome}
 use Rattle.frame.specs.Outcome.{Call, Add, Alloc, AllocAligned, AllocAt, Dealloc, DeallocAligned, outcome, making}
 use Rattle.frame.specs.Told.{replies, last}
-use Rattle.frame_laws.specs.History.{World, Reached, NoTouch, FreeFrame, after, fresh}
+use Rattle.frame_laws.specs.History.{World, Reached, range, Touch, NoTouch, FreeFrame}
 
 -- number 0 and a value
 abbrev pub done : ℕ → Reply
@@ -87,18 +87,56 @@ RefusedAtStart = (order : ℕ) (w : World) → Reached order w → NoTouch (w .h
 
 -- 5. The premise is needed: two ranges that touch, and a free block that is no largest one
 abbrev pub PremiseIsNeeded : Type 0
-PremiseIsNeeded = (order : ℕ) × (w : World) × Reached order w × (k : ℕ) × (s : ℕ) × Free (blocksOf (w .words)) k s
+PremiseIsNeeded = (order : ℕ) × (w : World) × Reached order w × (k : ℕ) × (s : ℕ) × (NoTouch (w .history .ranges) → ⊥) × Free (blocksOf (w .words)) k s
     × (Largest (order - 1) (FreeFrame (w .history)) k s → ⊥)
 
--- 6. Soundness is kept by every call, with no premise; and a table that was made here is never refused with 3
+-- It says what "touch" says: a frame of the one is a frame of the other, or next to one; and it can be met, with a grant that is held
+pub record Near (s e a b : ℕ) : Type 0 where
+  pub one : ℕ
+  pub other : ℕ
+  pub here : Within s e one
+  pub there : Within a b other
+  pub low : one ≤ suc other
+  pub high : other ≤ suc one
+
+abbrev pub TouchIsNear : Type 0
+TouchIsNear = (s e a b : ℕ) → s < e → a < b → Touch s e a b ↔ Near s e a b
+
+abbrev pub PremiseIsMet : Type 0
+PremiseIsMet = (w : World) × Reached 33 w × NoTouch (w .history .ranges)
+    × (w .history ≡ record { ranges = range 0 1 ∷ range 2 3 ∷ []; grants = blk true 0 0 ∷ [] })
+
+-- 6. Soundness is kept by every call, with no premise; a table that was made is sound, and is never refused with 3; a refused making changes no word
 abbrev pub SoundnessKept : Type 0
 SoundnessKept = (c : Call) (words : List ℕ) → soundb words ≡ true → soundb (outcome c words .words) ≡ true
+
+abbrev pub MadeIsSound : Type 0
+MadeIsSound = (order : ℕ) (lent : List ℕ) → making order lent .reply .number ≡ 0 → soundb (making order lent .words) ≡ true
+
+abbrev pub RefusedMaking : Type 0
+RefusedMaking = (order : ℕ) (lent : List ℕ) → (making order lent .reply .number ≡ 0 → ⊥) → making order lent .words ≡ lent
 
 abbrev pub NeverBadState : Type 0
 NeverBadState = (order : ℕ) (w : World) → Reached order w → (c : Call) → outcome c (w .words) .reply .number ≡ 3 → ⊥
 
--- The law of one step, from which 1 to 4 are derived: nothing is left to join after a call, if an added range touches no managed frame
+-- One call by itself, with the local premise: nothing is left to join after it, if an added range touches no managed frame at that moment
 abbrev pub NothingLeftToJoin : Type 0
 NothingLeftToJoin = (c : Call) (words : List ℕ) → soundb words ≡ true → Kept (orderOf (getD words 0 0) - 1) (blocksOf words)
     → ((s e : ℕ) → c ≡ Add s e → s < e → Touches s e (blocksOf words) → ⊥)
     → Kept (orderOf (getD words 0 0) - 1) (blocksOf (outcome c words .words))
+
+-- all of them
+pub record Demand3 : Type 0 where
+  pub free-blocks-are-largest : FreeBlocksAreLargest
+  pub release-restores : ReleaseRestores
+  pub any-order : AnyOrder
+  pub refused-for-want : RefusedForWant
+  pub refused-at-start : RefusedAtStart
+  pub premise-is-needed : PremiseIsNeeded
+  pub touch-is-near : TouchIsNear
+  pub premise-is-met : PremiseIsMet
+  pub soundness-kept : SoundnessKept
+  pub made-is-sound : MadeIsSound
+  pub refused-making : RefusedMaking
+  pub never-bad-state : NeverBadState
+  pub nothing-left-to-join : NothingLeftToJoin
