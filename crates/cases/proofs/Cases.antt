@@ -1,11 +1,11 @@
 -- Every case of the case table holds: its words are made from any that are lent, and the rest is computed. Assumes nothing.
-use mathlib.Core.Path.{_≡_, refl, ap, _∙_}
+use mathlib.Core.Path.{_≡_, refl, ap, ap₂, _∙_}
 use mathlib.Core.Bool.{Bool, true, false, _||_}
 use mathlib.Core.List.{List, [], _∷_, map}
 use Prim.Native.Nat.{ℕ}
 use lib.Count.{trailingZeros}
 use lib.Dec.{ltb}
-use lib.ListN.{length}
+use lib.ListN.{length, replicate, length-replicate}
 use Rattle.blocks.specs.Blocks.{sizeOf, sizeClass, firstHolding, rounded, largestPower, prevPowerOfTwo, lowestBit, buddyOf, lowestOrTop, pieceSize}
 use Rattle.rules.specs.Rules.{cutFrom, cut, added, towards, serving, containing, joined, released, halved}
 use Rattle.table.specs.Layout.{wordsOf}
@@ -13,11 +13,20 @@ use Rattle.table.specs.Sound.{headb, recordb, soundb}
 use Rattle.frame_core.specs.Deciding.{adding, granting, grantingAt, releasing}
 use Rattle.frame_core.specs.Carried.{Outcome}
 use Rattle.frame.specs.Outcome.{decide, outcome, making}
-use Rattle.cases.specs.Cases.{Step, Run, frames, Case, replied, heard, Holds, Every, CaseHolds, table1to11}
+use Rattle.blocks.specs.Blocks.{roundedAligned, isPowerOfTwo}
+use Rattle.heap_core.specs.Links as links
+use Rattle.heap_core.specs.Lists as lists
+use Rattle.heap_core.specs.Sound as blocks
+use Rattle.heap_core.specs.Outcome as heap
+use Rattle.cases.specs.Cases.{Step, HeapStep, Run, frames, heaps, Case, replied, heard, heardHeap, Holds, Every, CaseHolds, caseTable}
 
 -- the words of a table without records
 abbrev fresh : ℕ → ℕ → List ℕ
 fresh order n = wordsOf n (record { order = order; blocks = [] })
+
+-- a heap without blocks over an arena, with m ledger words
+abbrev freshHeap : ℕ → List ℕ → ℕ → heap.State
+freshHeap order arena m = record { heap = heap.freshHeap order; arena = arena; ledger = replicate m 0 }
 
 -- "1 BAD_ORDER" and "2 BAD_SIZE"
 abbrev badOrder : ℕ → Bool
@@ -32,23 +41,40 @@ made : (order : ℕ) (lent : List ℕ) → badOrder order ≡ false → badSize 
 unfolding making
 made order lent a b = rw (a, b)
 
+-- the same of a heap, of its ledger
+heap-made : (order : ℕ) (arena ledger : List ℕ) → blocks.orderb order ≡ true → blocks.lengthsb (length arena) (length ledger) ≡ true
+    → heap.making order arena ledger ≡ record { number = 0; value = 0; state = freshHeap order arena (length ledger) }
+unfolding heap.making
+heap-made order arena ledger a b = ap₂ (λ (x y : Bool). heap.madeIf x y order arena ledger) a b
+
 -- what is computed of a run, whatever words were lent, and what must come of it
-record Computed : Type 0 where
-  order : Bool
-  size : Bool
-  steps : List Step
+data Computed : Type 0 where
+  of-frames : Bool → Bool → List Step → Computed
+  of-heap : Bool → Bool → List HeapStep → Computed
 
 abbrev computed : Run → Computed
-computed (frames order n steps) = record { order = badOrder order; size = badSize n; steps = heard steps (fresh order n) }
+computed (frames order n steps) = of-frames (badOrder order) (badSize n) (heard steps (fresh order n))
+computed (heaps order n m steps) = of-heap (blocks.orderb order) (blocks.lengthsb n m) (heardHeap steps (freshHeap order (replicate n 0) m))
 
 abbrev stated : Run → Computed
-stated (frames order n steps) = record { order = false; size = false; steps = steps }
+stated (frames order n steps) = of-frames false false steps
+stated (heaps order n m steps) = of-heap true true steps
 
 run-holds : (r : Run) → computed r ≡ stated r → Holds r
 run-holds (frames order n steps) c = λ lent e.
-    let m = made order lent (ap (λ (x : Computed). x .order) c) (ap badSize e ∙ ap (λ (x : Computed). x .size) c) in (
-      ap (λ (o : Outcome). o .reply) m,
-      ap (λ (o : Outcome). heard steps (o .words)) m ∙ ap (λ (k : ℕ). heard steps (fresh order k)) e ∙ ap (λ (x : Computed). x .steps) c,
+    let a : badOrder order ≡ false = cc in
+    let b : badSize n ≡ false = cc in
+    let s : heard steps (fresh order n) ≡ steps = cc in
+    let m = made order lent a (ap badSize e ∙ b) in
+    (ap (λ (o : Outcome). o .reply) m, ap (λ (o : Outcome). heard steps (o .words)) m ∙ ap (λ (k : ℕ). heard steps (fresh order k)) e ∙ s)
+run-holds (heaps order n m steps) c = λ ledger e.
+    let a : blocks.orderb order ≡ true = cc in
+    let b : blocks.lengthsb n m ≡ true = cc in
+    let s : heardHeap steps (freshHeap order (replicate n 0) m) ≡ steps = cc in
+    let l : blocks.lengthsb (length {A = ℕ} (replicate n 0)) (length ledger) ≡ true = ap (λ (k : ℕ). blocks.lengthsb k (length ledger)) (length-replicate n 0) ∙ ap (blocks.lengthsb n) e ∙ b in
+    let h = heap-made order (replicate n 0) ledger a l in (
+      ap (λ (o : heap.Outcome). o .number) h,
+      ap (λ (o : heap.Outcome). heardHeap steps (o .state)) h ∙ ap (λ (k : ℕ). heardHeap steps (freshHeap order (replicate n 0) k)) e ∙ s,
     )
 
 -- one equation for the whole list, so that the checker computes it at once
@@ -61,6 +87,6 @@ all-hold [] c = tt
 all-hold (x ∷ xs) c = (runs-hold (x .runs) (cc), all-hold xs (cc))
 
 -- each call is computed over all words: the test of the table, what it says, what the call decides, and the words that are left
-pub cases-hold : Every CaseHolds table1to11
-unfolding trailingZeros sizeOf sizeClass firstHolding rounded largestPower prevPowerOfTwo lowestBit buddyOf lowestOrTop pieceSize cutFrom cut added towards serving containing joined released halved headb recordb soundb adding granting grantingAt releasing decide outcome
-cases-hold = all-hold table1to11 refl
+pub cases-hold : Every CaseHolds caseTable
+unfolding trailingZeros sizeOf sizeClass firstHolding rounded largestPower prevPowerOfTwo lowestBit buddyOf lowestOrTop pieceSize cutFrom cut added towards serving containing joined released halved headb recordb soundb adding granting grantingAt releasing decide outcome roundedAligned isPowerOfTwo links.nodes lists.push lists.pop lists.remove lists.pushAll lists.split lists.splitDown lists.joinUp lists.release blocks.rangesb blocks.reaches blocks.recordb blocks.countersb blocks.soundb heap.adding heap.granting heap.releasing heap.decide heap.outcome
+cases-hold = all-hold caseTable refl

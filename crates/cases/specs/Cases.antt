@@ -1,13 +1,15 @@
--- The cases 1 to 11 of docs/RULES.md, "Case table", as a list, and what it is for one to hold of the definitions.
+-- The cases of docs/RULES.md, "Case table", as a list, and what it is for one to hold of the definitions.
 use mathlib.Core.Path.{_≡_}
 use mathlib.Core.Bool.{true, false}
 use mathlib.Core.List.{List, [], _∷_, map}
 use Prim.Native.Nat.{ℕ, _+_, _-_, _^_}
-use lib.ListN.{length, take}
+use lib.ListN.{length, take, replicate}
 use Rattle.rules.specs.Rules.{Block, blk}
 use Rattle.table.specs.Layout.{blocksOf}
 use Rattle.frame_core.specs.Carried.{Reply}
 use Rattle.frame.specs.Outcome.{Call, Add, Alloc, AllocAt, Dealloc, outcome, making}
+use Rattle.heap_core.specs.Outcome as heap
+use Rattle.heap_core.specs.Sound as blocks
 
 -- ---- what the paper says
 
@@ -22,9 +24,18 @@ pub record Step : Type 0 where
   pub reply : Reply
   pub leaves : List Claim
 
--- calls one after the other on a table that was just made, of an ORDER and a number of words; a run on a heap is to be another constructor
+-- a call on a heap, its number and value, and the free blocks afterwards, list after list, if anything is said of them
+pub record HeapStep : Type 0 where
+  pub call : heap.Call
+  pub number : ℕ
+  pub value : ℕ
+  pub free : List (List blocks.Block)
+
+-- calls one after the other on a table that was just made, of an ORDER and a number of words, or on a heap that was just made, of an ORDER, over an
+-- arena of so many words, all zero, and a ledger of so many
 pub data Run : Type 0 where
   frames : ℕ → ℕ → List Step → Run
+  heaps : ℕ → ℕ → ℕ → List HeapStep → Run
 
 -- a line of the case table: its number, and its runs, each from a table made anew
 pub record Case : Type 0 where
@@ -49,9 +60,22 @@ heard (s ∷ ss) ws =
     record { call = s .call; reply = outcome (s .call) ws .reply; leaves = map (found (outcome (s .call) ws .words)) (s .leaves) }
     ∷ heard ss (outcome (s .call) ws .words)
 
+abbrev pub heardHeap : List HeapStep → heap.State → List HeapStep
+heardHeap [] st = []
+heardHeap (s ∷ ss) st =
+    record {
+      call = s .call;
+      number = heap.outcome (s .call) st .number;
+      value = heap.outcome (s .call) st .value;
+      free = map (λ claim. blocks.freeBlocks (heap.outcome (s .call) st .state .heap) (heap.outcome (s .call) st .state .arena)) (s .free);
+    }
+    ∷ heardHeap ss (heap.outcome (s .call) st .state)
+
 -- whatever words are lent, making is accepted, and the definitions say what the paper says
 abbrev pub Holds : Run → Type 0
 Holds (frames order n steps) = (lent : List ℕ) → length lent ≡ n → (making order lent .reply ≡ replied 0 0) × (heard steps (making order lent .words) ≡ steps)
+Holds (heaps order n m steps) = (ledger : List ℕ) → length ledger ≡ m
+    → (heap.making order (replicate n 0) ledger .number ≡ 0) × (heardHeap steps (heap.making order (replicate n 0) ledger .state) ≡ steps)
 
 -- each entry of a list has a property
 abbrev pub Every : {A : Type 0} → (A → Type 0) → List A → Type 0
@@ -94,8 +118,15 @@ case2 =
 abbrev pub case8 : Step
 case8 = leaving (AllocAt 2 2) 0 2 (Records (free 0 1 ∷ held 2 1 ∷ free 4 2 ∷ []) ∷ [])
 
-abbrev pub table1to11 : List Case
-table1to11 =
+-- the heap's calls, of which the paper gives the answer and no more, or the free blocks afterwards as well
+abbrev pub heapSays : heap.Call → ℕ → ℕ → HeapStep
+heapSays c number value = record { call = c; number = number; value = value; free = [] }
+
+abbrev pub heapLeaves : heap.Call → ℕ → ℕ → List blocks.Block → HeapStep
+heapLeaves c number value bs = record { call = c; number = number; value = value; free = bs ∷ [] }
+
+abbrev pub caseTable : List Case
+caseTable =
     -- "1. add [0,0): no records."
     line 1 (long (leaving (Add 0 0) 0 0 (Records [] ∷ []) ∷ []) ∷ [])
     -- "2. add [0,3): start 0 class 1, start 2 class 0. Words 8400080000000000, 0200000000000000, 0000000000000002 (hex)."
@@ -127,4 +158,16 @@ table1to11 =
     ∷ line 11
     (long (says (Add (2 ^ 32 - 1) (2 ^ 32)) 0 0 ∷ says (Add (2 ^ 32 - 1) (2 ^ 32 + 1)) 4 0 ∷ says (Add 5 4) 4 0 ∷ [])
     ∷ long (says (Add (2 ^ 32 - 1) (2 ^ 32 + 1)) 4 0 ∷ []) ∷ long (says (Add 5 4) 4 0 ∷ []) ∷ [])
+    -- "12. Heap ORDER 4, 8 words, add 8..64: seven blocks; alloc(8,8) = 56."
+    ∷ line 12
+    (heaps 4 8 8
+    (heapLeaves (heap.AddToHeap 8 64) 0 0 (blocks.blk 3 56 ∷ blocks.blk 3 48 ∷ blocks.blk 3 40 ∷ blocks.blk 3 32 ∷ blocks.blk 3 24 ∷ blocks.blk 3 16 ∷ blocks.blk 3 8 ∷ [])
+    ∷ heapSays (heap.Alloc 8 8) 0 56 ∷ [])
+    ∷ [])
+    -- "13. Heap ORDER 7, 8 words, add 8..64: 8, 16, 32 in classes 3, 4, 5. alloc(8,8) = 8, alloc(1,1) = 16; releasing 16 compares 3 nodes."
+    ∷ line 13
+    (heaps 7 8 8
+    (heapLeaves (heap.AddToHeap 8 64) 0 0 (blocks.blk 3 8 ∷ blocks.blk 4 16 ∷ blocks.blk 5 32 ∷ []) ∷ heapSays (heap.Alloc 8 8) 0 8 ∷ heapSays (heap.Alloc 1 1) 0 16
+    ∷ heapSays (heap.Dealloc 16 1 1) 0 3 ∷ [])
+    ∷ [])
     ∷ []

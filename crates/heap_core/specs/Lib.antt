@@ -1,0 +1,5 @@
+pub mod Ledger
+pub mod Links
+pub mod Lists
+pub mod Sound
+pub mod Outcome
