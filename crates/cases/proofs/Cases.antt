@@ -14,7 +14,7 @@ use Rattle.frame_core.specs.Deciding.{adding, granting, grantingAt, releasing}
 use Rattle.frame_core.specs.Carried.{Outcome}
 use Rattle.frame.specs.Outcome.{decide, outcome, making}
 use Rattle.blocks.specs.Blocks.{roundedAligned, isPowerOfTwo}
-use Rattle.heap_core.specs.Links as links
+use Rattle.linked_list.specs.Links as links
 use Rattle.heap_core.specs.Lists as lists
 use Rattle.heap_core.specs.Sound as blocks
 use Rattle.heap_core.specs.Outcome as heap
@@ -88,5 +88,5 @@ all-hold (x ∷ xs) c = (runs-hold (x .runs) (cc), all-hold xs (cc))
 
 -- each call is computed over all words: the test of the table, what it says, what the call decides, and the words that are left
 pub cases-hold : Every CaseHolds caseTable
-unfolding trailingZeros sizeOf sizeClass firstHolding rounded largestPower prevPowerOfTwo lowestBit buddyOf lowestOrTop pieceSize cutFrom cut added towards serving containing joined released halved headb recordb soundb adding granting grantingAt releasing decide outcome roundedAligned isPowerOfTwo links.nodes lists.push lists.pop lists.remove lists.pushAll lists.split lists.splitDown lists.joinUp lists.release blocks.rangesb blocks.reaches blocks.recordb blocks.countersb blocks.soundb heap.adding heap.granting heap.releasing heap.decide heap.outcome
+unfolding trailingZeros sizeOf sizeClass firstHolding rounded largestPower prevPowerOfTwo lowestBit buddyOf lowestOrTop pieceSize cutFrom cut added towards serving containing joined released halved headb recordb soundb adding granting grantingAt releasing decide outcome roundedAligned isPowerOfTwo links.nodes links.position lists.push lists.pop lists.remove lists.pushAll lists.split lists.splitDown lists.joinUp lists.release blocks.rangesb blocks.reaches blocks.recordb blocks.countersb blocks.soundb heap.adding heap.granting heap.releasing heap.decide heap.outcome
 cases-hold = all-hold caseTable refl

@@ -1,11 +1,11 @@
 -- The lists of a heap, from docs/RULES.md, "The heap over an arena": "Lists are last in, first out; a free block's first word holds the next address."
-use mathlib.Core.Bool.{Bool, true, false, _||_}
+use mathlib.Core.Bool.{Bool, true, false}
 use mathlib.Core.List.{List, [], _∷_}
-use Prim.Native.Nat.{ℕ, zero, suc, _+_, _-_, _/_, _^_, min}
-use lib.Dec.{eqb, leb, ltb}
+use Prim.Native.Nat.{ℕ, zero, suc, _+_, _-_, _^_, min}
+use lib.Dec.{eqb, ltb}
 use lib.ListN.{length, getD, set}
 use Rattle.blocks.specs.Blocks.{buddyOf, pieceSize, sizeClass}
-use Rattle.heap_core.specs.Links.{next, nodes}
+use Rattle.linked_list.specs.Links.{next, nodes, pushed, removed, position, linkTo, compared, Links}
 
 -- the heads of the lists, and the words of the arena; an address is a byte offset, a word has 8 bytes
 pub record Memory : Type 0 where
@@ -19,34 +19,24 @@ head k m = getD (m .heads) k 0
 abbrev pub list : ℕ → Memory → List ℕ
 list k m = nodes (length (m .arena)) (m .arena) (head k m)
 
+-- the list of class k as a call on it leaves it
+abbrev pub withList : ℕ → Links → Memory → Memory
+withList k l m = record { heads = set (m .heads) k (l .head); arena = l .words }
+
 -- a push writes the block's first word, and the block is the new head
 unfoldable pub push : ℕ → ℕ → Memory → Memory
-push k a m = record { heads = set (m .heads) k a; arena = set (m .arena) (a / 8) (head k m) }
+push k a m = withList k (pushed (head k m) (m .arena) a) m
 
 -- a pop writes nothing: the head's own link is the new head
 unfoldable pub pop : ℕ → Memory → Memory
 pop k m = record { heads = set (m .heads) k (next (m .arena) (head k m)); arena = m .arena }
 
--- ---- where a node stands in a list
-
--- how many nodes stand before it; all of them, where it is not there
-abbrev pub position : ℕ → List ℕ → ℕ
-position a [] = 0
-position a (x ∷ xs) = elim (eqb x a) [ true ↦ 0 | false ↦ suc (position a xs) ]
-
 abbrev pub stands : ℕ → List ℕ → Bool
 stands a xs = ltb (position a xs) (length xs)
 
--- "the list nodes compared with the buddy": "the pushed block counts, so does the buddy where found"
-abbrev pub compared : ℕ → List ℕ → ℕ
-compared a xs = min (suc (position a xs)) (length xs)
-
 -- a node is taken out of its list: the link before it, a head or the word of the previous node, gets its own link
 unfoldable pub remove : ℕ → ℕ → Memory → Memory
-remove k a m = elim (eqb (position a (list k m)) 0) [
-  | true ↦ record { heads = set (m .heads) k (next (m .arena) a); arena = m .arena }
-  | false ↦ record { heads = m .heads; arena = set (m .arena) (getD (list k m) (position a (list k m) - 1) 0 / 8) (next (m .arena) a) }
-]
+remove k a m = withList k (removed (head k m) (m .arena) (linkTo (position a (list k m)) (list k m)) a) m
 
 -- ---- adding: the pieces of n bytes from s on, one after the other, each pushed
 unfoldable pub pushAll : ℕ → ℕ → ℕ → ℕ → Memory → Memory

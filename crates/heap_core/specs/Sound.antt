@@ -6,7 +6,7 @@ use lib.Dec.{leb, ltb, eqb}
 use lib.ListN.{length, getD, take, drop}
 use Rattle.heap_core.specs.declared.Heap.{Heap}
 use Rattle.heap_core.specs.Ledger.{Grant, grant, class, requested, address, classOf, requestedOf, gapOf, addressOf, grantOf}
-use Rattle.heap_core.specs.Links.{next}
+use Rattle.linked_list.specs.Links.{next}
 use Rattle.heap_core.specs.Lists.{Memory, list}
 
 -- a block of bytes, free or granted: its class and its address
