@@ -10,6 +10,7 @@ pub mod crate_guard;
 pub mod judge;
 pub mod line_language;
 pub mod line_reader;
+pub mod program;
 pub mod random_calls;
 pub mod random_numbers;
 pub mod random_run;

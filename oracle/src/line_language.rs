@@ -7,12 +7,7 @@ pub const LONGEST_LINE: usize = 80;
 
 /// The call of a line, or nothing for a bad line; `all_calls` also knows the calls that `calls` has no word for.
 pub fn parse(line: &[u8], all_calls: bool) -> Option<Call> {
-    if line.len() > LONGEST_LINE {
-        return None;
-    }
-    let mut parts = line.split(|byte| *byte == b' ');
-    let name = parts.next()?;
-    let numbers: Vec<u64> = parts.map(number).collect::<Option<_>>()?;
+    let (name, numbers) = name_and_numbers(line)?;
     match (name, numbers.as_slice()) {
         (b"order", [order]) => Some(Call::Make { order: *order }),
         (b"add", [start, end]) => Some(Call::AddFrame {
@@ -51,6 +46,17 @@ fn other_call(name: &[u8], numbers: &[u64]) -> Option<Call> {
         (b"summary", []) => Some(Call::Summary),
         _ => None,
     }
+}
+
+/// The first word of a line and the numbers after it, one space between words; nothing for any other line.
+pub fn name_and_numbers(line: &[u8]) -> Option<(&[u8], Vec<u64>)> {
+    if line.len() > LONGEST_LINE {
+        return None;
+    }
+    let mut parts = line.split(|byte| *byte == b' ');
+    let name = parts.next()?;
+    let numbers = parts.map(number).collect::<Option<_>>()?;
+    Some((name, numbers))
 }
 
 /// A decimal number below 2^64, leading zeros allowed; two spaces in a row leave an empty word, which is none.

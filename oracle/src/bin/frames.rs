@@ -4,6 +4,7 @@ use frame_oracle::call::Call;
 use frame_oracle::judge::Judge;
 use frame_oracle::line_language::{self, LONGEST_LINE};
 use frame_oracle::line_reader::next_line;
+use frame_oracle::program::{arguments, end, Stop};
 use frame_oracle::random_run::{self, Trace, Wish};
 use frame_oracle::words;
 use std::io::{self, BufWriter, Write};
@@ -32,24 +33,8 @@ struct Options {
     help: bool,
 }
 
-/// Why the program ends early: crate and document part, or its own input or output broke.
-enum Stop {
-    Parted(String),
-    Broken(io::Error),
-}
-
-impl From<io::Error> for Stop {
-    fn from(error: io::Error) -> Stop {
-        Stop::Broken(error)
-    }
-}
-
 fn main() -> ExitCode {
-    let arguments: Vec<_> = std::env::args_os()
-        .skip(1)
-        .map(|word| word.into_string().ok())
-        .collect();
-    let Some(options) = read_options(&arguments) else {
+    let Some(options) = read_options(&arguments()) else {
         eprintln!("{USAGE}");
         return ExitCode::from(2);
     };
@@ -59,25 +44,7 @@ fn main() -> ExitCode {
         (_, Some((seed, calls))) => run_random(&options, seed, calls, &mut output),
         (_, None) => answer_lines(&options, &mut output),
     };
-    match result.and_then(|()| Ok(output.flush()?)) {
-        Ok(()) => ExitCode::SUCCESS,
-        Err(stop) => report(stop, &mut output),
-    }
-}
-
-/// Says why on standard error, after everything that was answered before.
-fn report(stop: Stop, output: &mut impl Write) -> ExitCode {
-    match stop {
-        Stop::Parted(text) => {
-            let _ = output.flush();
-            eprintln!("frames: {text}");
-            ExitCode::from(1)
-        }
-        Stop::Broken(error) => {
-            eprintln!("frames: {error}");
-            ExitCode::from(2)
-        }
-    }
+    end("frames", result, &mut output)
 }
 
 fn read_options(arguments: &[Option<String>]) -> Option<Options> {
