@@ -40,6 +40,7 @@ struct Real {
 pub struct Judge {
     paper: Bookkeeping,
     real: Option<Real>,
+    asked: u64,
 }
 
 impl Judge {
@@ -66,6 +67,7 @@ impl Judge {
             return Ok(answer);
         };
         if reaches_the_crate(call, &answer) {
+            self.asked += 1;
             real.hold_to_answer(call, &answer, recount)?;
         }
         self.hold_to_state(call)?;
@@ -84,9 +86,9 @@ impl Judge {
         self.paper.broken()
     }
 
-    /// The crate answers too, from the last making until memory was put past the rules.
-    pub fn crate_follows(&self) -> bool {
-        self.real.is_some()
+    /// How many calls were put to the crate.
+    pub fn asked(&self) -> u64 {
+        self.asked
     }
 
     /// A fresh heap of the crate over the arena's words as they are; after a refused making there is none.

@@ -7,11 +7,11 @@ use crate::random_calls::Life;
 use frame_oracle::random_numbers::RandomNumbers;
 use std::collections::BTreeMap;
 
-/// How often each kind of answer was given, and how many calls the crate took part in.
+/// How often each kind of answer was given, and how many calls were put to the crate.
 #[derive(Default)]
 pub struct Tally {
     numbers: BTreeMap<u64, u64>,
-    followed: u64,
+    asked: u64,
 }
 
 /// Where a run parted, and the lines that lead there from nothing lent.
@@ -22,21 +22,20 @@ pub struct Trace {
 }
 
 impl Tally {
-    fn count(&mut self, answer: &Answer, followed: bool) {
+    fn count(&mut self, answer: &Answer) {
         if let Some(number) = answer.number() {
             *self.numbers.entry(number).or_default() += 1;
         }
-        self.followed += u64::from(followed);
     }
 
-    /// For example `accepted 120, no 4: 7, no 9: 31; the crate followed 140`.
+    /// For example `accepted 120, no 4: 7, no 9: 31; put to the crate 150`.
     pub fn text(&self) -> String {
         let texts = self.numbers.iter().map(|(number, times)| match number {
             0 => format!("accepted {times}"),
             _ => format!("no {number}: {times}"),
         });
         let answers = texts.collect::<Vec<String>>().join(", ");
-        format!("{answers}; the crate followed {}", self.followed)
+        format!("{answers}; put to the crate {}", self.asked)
     }
 }
 
@@ -59,7 +58,7 @@ pub fn run(seed: u64, calls: u64, mut show: impl FnMut(Call)) -> Result<Tally, T
         show(call);
         match judge.call(call) {
             Ok(answer) => {
-                tally.count(&answer, judge.crate_follows());
+                tally.count(&answer);
                 forget_before_new_heap(&mut lines, &answer);
             }
             Err(parting) => {
@@ -71,6 +70,7 @@ pub fn run(seed: u64, calls: u64, mut show: impl FnMut(Call)) -> Result<Tally, T
             }
         }
     }
+    tally.asked = judge.asked();
     Ok(tally)
 }
 
