@@ -5,6 +5,7 @@ use frame_oracle::line_reader::next_line;
 use frame_oracle::program::{arguments, end, Stop};
 use heap_oracle::judge::Judge;
 use heap_oracle::line_language;
+use heap_oracle::listing::listing;
 use heap_oracle::random_run::{self, Trace};
 use std::io::{self, BufWriter, Write};
 use std::process::ExitCode;
@@ -91,41 +92,9 @@ fn answer_lines(options: &Options, output: &mut impl Write) -> Result<(), Stop> 
             writeln!(output, "broken {:?}", judge.broken())?;
         }
     }
-    list_memory(&judge, output)?;
+    let lists = judge.sound().map(|reading| reading.lists.as_slice());
+    output.write_all(listing(judge.memory(), lists).as_bytes())?;
     Ok(())
-}
-
-/// The record, the lists of a sound heap, and every lent word that is not zero.
-fn list_memory(judge: &Judge, output: &mut impl Write) -> io::Result<()> {
-    let memory = judge.memory();
-    let record = &memory.record;
-    writeln!(
-        output,
-        "record order {} count {} user {} allocated {} total {}",
-        record.order, record.count, record.user, record.allocated, record.total
-    )?;
-    writeln!(output, "heads {}", joined(&record.heads))?;
-    match judge.sound() {
-        None => writeln!(output, "not sound")?,
-        Some(reading) => {
-            let numbered = reading.lists.iter().enumerate();
-            for (class, list) in numbered.filter(|(_, list)| !list.is_empty()) {
-                writeln!(output, "list {class} {}", joined(list))?;
-            }
-        }
-    }
-    for (name, words) in [("ledger", &memory.ledger), ("arena", &memory.arena)] {
-        let numbered = words.iter().enumerate();
-        for (index, word) in numbered.filter(|(_, word)| **word != 0) {
-            writeln!(output, "{name} {index} {word:016x}")?;
-        }
-    }
-    Ok(())
-}
-
-fn joined(numbers: &[u64]) -> String {
-    let texts: Vec<String> = numbers.iter().map(u64::to_string).collect();
-    texts.join(" ")
 }
 
 fn run_random(
