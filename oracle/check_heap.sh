@@ -43,6 +43,56 @@ run_heap_clauses() {
     done
 }
 
+# run_heap_faults NAME INPUT..: the stand-in gives the outputs beside the inputs, and with any of its faults another.
+run_heap_faults() {
+    name=$1
+    shift
+    "$out/heap_stand_in" "$@" >"$work/got" 2>"$work/err"
+    status=$?
+    while IFS=: read -r fault said; do
+        case "$fault,$said" in
+        'None, not noticed') why= ;;
+        None,*) why=$said ;;
+        *' noticed by '*) why= ;;
+        *) why=$said ;;
+        esac
+        verdict "$name and the fault $fault" "$why"
+    done <"$work/got"
+    why=
+    [ "$(grep -c 'noticed by' "$work/got")" -ge 55 ] || why='fewer faults than there are'
+    [ "$status" = 0 ] || why="exit status $status: $(first_line "$work/err")"
+    verdict "$name and all faults" "$why"
+}
+
+# The recorded lines notice every fault as the cases do; where the product has heap_calls, it holds what record_heap makes.
+run_heap_recorded() {
+    "$here/record_heap" "$work/stored" >"$work/err" 2>&1
+    status=$?
+    why=
+    [ "$status" = 0 ] || why="exit status $status: $(first_line "$work/err")"
+    verdict 'recorded lines of heap_calls' "$why"
+    cp "$work/stored/stdin" "$work/stored.in" && cp "$work/stored/stdout" "$work/stored.out"
+    run_heap_faults 'recorded lines' "$work/stored.in"
+    if [ ! -d "$repo/crates/heap_calls" ]; then
+        echo 'not run: the stored lines of heap_calls, since there is no such crate'
+        return
+    fi
+    for file in stdin stdout; do
+        why=
+        cmp -s "$work/stored/$file" "$repo/crates/heap_calls/$file" || why="record_heap makes another"
+        verdict "stored $file of heap_calls" "$why"
+    done
+}
+
+# run_heap_twice SEED: the stand-in without a fault, a second reading of the rules, prints the same for random lines.
+run_heap_twice() {
+    "$out/heaps" --random "$1" 20000 --lines >"$work/input" 2>"$work/err"
+    "$out/heaps" <"$work/input" >"$work/expected" 2>"$work/err"
+    "$out/heap_stand_in" <"$work/input" >"$work/got" 2>>"$work/err"
+    status=$?
+    verdict "a second reading of the rules, seed $1" "$(same "$work/expected" $status)"
+}
+
 # The lines of a random run on the crate altered last stop again when they are fed in.
 run_heap_replay() {
     folder=$work/altered
@@ -127,6 +177,10 @@ run_heaps() {
         run_case "$input"
     done
     run_heap_clauses
+    run_heap_faults 'cases' "$here"/cases-heap/*.in
+    run_heap_recorded
+    run_heap_twice 1
+    run_heap_twice "$1"
     run_heap_differences
     run_heap_lengths
     run_heap_long_line
