@@ -114,6 +114,9 @@ fn adding() {
             "accepted".to_string()
         },
     );
+}
+
+fn adding_again() {
     row("add of 8..16 twice", 7, |trial| {
         trial.add(8, 16);
         trial.add(8, 16);
@@ -134,7 +137,7 @@ fn adding() {
     });
 }
 
-fn releasing() {
+fn releasing_twice() {
     row("release twice in the top class", 4, |trial| {
         trial.add(8, 24);
         let (one, other) = (trial.alloc(8, 8), trial.alloc(8, 8));
@@ -148,6 +151,9 @@ fn releasing() {
         trial.free(8, 8, 8);
         trial.free(8, 8, 8);
     });
+}
+
+fn releasing_other_sizes() {
     stopped_row("release with more bytes than are granted", 4, |trial| {
         trial.add(16, 32);
         trial.alloc(5, 8);
@@ -201,6 +207,8 @@ fn sizes() {
 
 fn main() {
     adding();
-    releasing();
+    adding_again();
+    releasing_twice();
+    releasing_other_sizes();
     sizes();
 }

@@ -27,9 +27,9 @@ fn free(address: u64, size: u64) -> Call {
     }
 }
 
-/// One word or one byte to either side of what is in range, and the largest blocks that such an arena has.
-fn calls() -> Vec<(Call, &'static str)> {
-    let bytes = ARENA as u64 * 8;
+/// One word to either side of the lengths that are in range, and one byte of the ranges.
+fn lengths() -> Vec<(Call, &'static str)> {
+    let (start, bytes) = (8, ARENA as u64 * 8);
     vec![
         (make(24, ARENA + 1, 1), "2 0"),
         (make(24, 2, LEDGER + 1), "2 0"),
@@ -38,25 +38,26 @@ fn calls() -> Vec<(Call, &'static str)> {
         (make(24, ARENA, LEDGER), "0 0"),
         (
             Call::Add {
-                start: 8,
+                start,
                 end: bytes + 1,
             },
             "4 0",
         ),
+        (Call::Init { start, size: bytes }, "4 0"),
         (
             Call::Init {
-                start: 8,
-                size: bytes,
-            },
-            "4 0",
-        ),
-        (
-            Call::Init {
-                start: 8,
+                start,
                 size: bytes - 8,
             },
             "0 0",
         ),
+    ]
+}
+
+/// The largest blocks that such an arena has, and its longest list.
+fn blocks() -> Vec<(Call, &'static str)> {
+    let (start, end) = (8, ARENA as u64 * 8);
+    vec![
         (Call::List { class: 22 }, "0 1 4194304"),
         (Call::List { class: 23 }, "0 0"),
         (alloc(4_194_305, 1), "9 0"),
@@ -71,13 +72,7 @@ fn calls() -> Vec<(Call, &'static str)> {
         (alloc(8, 1), "0 32"),
         (free(32, 8), "0 5"),
         (make(4, ARENA, LEDGER), "0 0"),
-        (
-            Call::Add {
-                start: 8,
-                end: bytes,
-            },
-            "0 0",
-        ),
+        (Call::Add { start, end }, "0 0"),
         (alloc(8, 8), "0 8388600"),
         (free(8_388_600, 8), "0 0"),
     ]
@@ -85,7 +80,7 @@ fn calls() -> Vec<(Call, &'static str)> {
 
 fn main() -> ExitCode {
     let mut judge = Judge::new();
-    for (call, expected) in calls() {
+    for (call, expected) in lengths().into_iter().chain(blocks()) {
         match judge.call(call) {
             Ok(answer) if answer.to_string() == expected => println!("{call}: {answer}"),
             Ok(answer) => {

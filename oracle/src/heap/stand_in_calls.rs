@@ -56,29 +56,13 @@ impl StandIn {
         size: u64,
         align: u64,
     ) -> Result<Answer, Refusal> {
-        let full = hand.grants.len() + usize::from(self.is(Fault::LedgerOneLess))
-            >= self.memory.ledger.len();
+        let spare = usize::from(self.is(Fault::LedgerOneLess));
+        let full = hand.grants.len() + spare >= self.memory.ledger.len();
         if full && self.is(Fault::LedgerFullTestedFirst) {
             return Err(Refusal::NoRoom);
         }
-        let bad_align = align.count_ones() != 1 && !self.is(Fault::AlignmentNotTested);
-        if bad_align && !self.is(Fault::AlignmentTestedLate) {
-            return Err(Refusal::BadAlign);
-        }
         let class = self.class(size, align);
-        let top = (self.memory.record.order as usize).min(hand.lists.len());
-        let mut serving = (class..top).filter(|class| !hand.lists[*class].is_empty());
-        let found = if self.is(Fault::LargestClass) {
-            serving.last()
-        } else {
-            serving.next()
-        };
-        let from = found
-            .filter(|_| !self.is(Fault::GrantRefusesAlways))
-            .ok_or(Refusal::NoBlock)?;
-        if bad_align {
-            return Err(Refusal::BadAlign);
-        }
+        let from = self.serving(&hand, class, align)?;
         if full && !self.is(Fault::RoomTestedAfterTheSplit) {
             return Err(Refusal::NoRoom);
         }
@@ -91,20 +75,43 @@ impl StandIn {
         if self.is(Fault::GrantClearsItsFirstWord) {
             self.put_word(address, 0);
         }
-        self.enter(
-            &mut hand,
-            Grant {
-                class: class as u32,
-                requested: size,
-                address,
-            },
-        );
+        let grant = Grant {
+            class: class as u32,
+            requested: size,
+            address,
+        };
+        self.enter(&mut hand, grant);
         self.close(&hand);
-        Ok(Answer::Value(if self.is(Fault::GrantAnswers0) {
+        let told = if self.is(Fault::GrantAnswers0) {
             0
         } else {
             address
-        }))
+        };
+        Ok(Answer::Value(told))
+    }
+
+    /// The class whose first block serves, after the test of the alignment.
+    fn serving(&self, hand: &Hand, class: usize, align: u64) -> Result<usize, Refusal> {
+        let bad_align = self.bad_align(align);
+        if bad_align && !self.is(Fault::AlignmentTestedLate) {
+            return Err(Refusal::BadAlign);
+        }
+        let top = (self.memory.record.order as usize).min(hand.lists.len());
+        let mut serving = (class..top).filter(|class| !hand.lists[*class].is_empty());
+        let found = match self.fault {
+            Fault::GrantRefusesAlways => None,
+            Fault::LargestClass => serving.last(),
+            _ => serving.next(),
+        };
+        let from = found.ok_or(Refusal::NoBlock)?;
+        if bad_align {
+            return Err(Refusal::BadAlign);
+        }
+        Ok(from)
+    }
+
+    fn bad_align(&self, align: u64) -> bool {
+        align.count_ones() != 1 && !self.is(Fault::AlignmentNotTested)
     }
 
     /// Halves the first block of `from` until it is of `class`; what is kept has been in its list, and keeps that link.
@@ -177,7 +184,7 @@ impl StandIn {
     }
 
     fn find(&self, hand: &Hand, address: u64, size: u64, align: u64) -> Result<usize, Refusal> {
-        let bad_align = align.count_ones() != 1 && !self.is(Fault::AlignmentNotTested);
+        let bad_align = self.bad_align(align);
         if bad_align && !self.is(Fault::AlignmentTestedLate) {
             return Err(Refusal::BadAlign);
         }
@@ -242,14 +249,7 @@ impl StandIn {
                 return compared;
             };
             compared -= u64::from(self.is(Fault::BuddyNotCounted));
-            if self.is(Fault::PopsBeforeRemoving) {
-                hand.lists[class].remove(0);
-                self.take_out(hand, class, place - 1);
-            } else {
-                self.take_out(hand, class, place);
-                let own = hand.lists[class].iter().position(|node| *node == address);
-                hand.lists[class].remove(own.unwrap_or(0));
-            }
+            self.take_both(hand, class, place, address);
             class += 1;
             address = address.min(buddy);
             self.push(hand, class, address);
@@ -261,6 +261,17 @@ impl StandIn {
             } else {
                 0
             }
+    }
+
+    /// Takes out the buddy at `place`, then the released block, which is in front.
+    fn take_both(&mut self, hand: &mut Hand, class: usize, place: usize, released: u64) {
+        if self.is(Fault::PopsBeforeRemoving) {
+            hand.lists[class].remove(0);
+            return self.take_out(hand, class, place - 1);
+        }
+        self.take_out(hand, class, place);
+        let own = hand.lists[class].iter().position(|node| *node == released);
+        hand.lists[class].remove(own.unwrap_or(0));
     }
 
     /// Takes out a node: the word of the node before it is written, where there is one.
