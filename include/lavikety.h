@@ -28,7 +28,7 @@
  *
  * TIME. Each call but the making of a table reads every lent word once to see that the table is sound. Then a grant goes over the
  * records once more at most, the summary once more, adding takes a step for each piece of the range, up to the room there is, and a
- * change moves at most all records after it by one step. So lend no more words than you need.
+ * change moves each record after it once at most. So lend no more words than you need.
  *
  * POWER LOSS inside a call may leave a table that is half changed. The next call then most often finds it not sound and refuses with
  * LAVIKETY_BAD_STATE; nothing is proved of a call that is cut short. After such a loss make a new table, or go back to a copy.

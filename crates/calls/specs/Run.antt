@@ -3,15 +3,17 @@ use mathlib.Core.Bool.{Bool, true, false}
 use mathlib.Core.List.{List, [], _∷_}
 use mathlib.Core.Path.{_≡_}
 use Prim.Native.Nat.{ℕ, _+_}
+use lib.Dec.{eqb}
 use lib.ListN.{length, take}
 use Rattle.answers.specs.Paper.{paper}
 use Rattle.frame.specs.Outcome as frame
 use Rattle.frame_core.specs.Carried.{Reply, Outcome}
+use Rattle.table.specs.Layout.{markOf, classOf, startOf}
 use Rattle.lines.specs.Bytes.{bytes}
 use Rattle.lines.specs.Command.{commandOf}
 use Rattle.lines.specs.Gather.{Reading, fed, lastLine}
 use Rattle.lines.specs.Put.{Put}
-use Rattle.lines.specs.Text.{replyText}
+use Rattle.lines.specs.Text.{replyText, recordText}
 use Rattle.lines.specs.declared.Command.{Command}
 use Rattle.lines.specs.declared.Command.the-variants.{Order, Add, Alloc, At, Free, Bad}
 use Rattle.calls.specs.declared.Printed.{Printed}
@@ -57,6 +59,10 @@ printed c ws = lineFor c (outcomeOf c ws .reply)
 abbrev pub lineOf : Printed → List ℕ
 lineOf (Printed·reply a valued) = replyText (paper a .number) (paper a .value) valued
 lineOf BadLine = badLine
+
+-- "each record as start, class, and `granted` or `free`": the line of a record's word
+abbrev pub blockLine : ℕ → List ℕ
+blockLine w = recordText (startOf w) (classOf w) (eqb (markOf w) 1)
 
 -- a text stands whole in a buffer, from some place on
 pub record Shown (text buffer : List ℕ) (after : ℕ) (left : List ℕ) : Type 0 where

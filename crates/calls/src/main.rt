@@ -4,7 +4,7 @@ ghost use Prim.Native.Nat.{_+_, _≤_, _<_};
 ghost use lib.ListN.{length, take};
 ghost use Rattle.lines.specs.Command.{commandOf};
 ghost use Rattle.lines.specs.Put.{Put};
-ghost use Rattle.calls.specs.Run.{printed, wordsAfter, lineOf, Shown, Took, Ended};
+ghost use Rattle.calls.specs.Run.{printed, wordsAfter, lineOf, blockLine, Shown, Took, Ended};
 use answers::Answer;
 use libc::STDIN_FILENO;
 use libc::STDOUT_FILENO;
@@ -133,14 +133,15 @@ fn read_some(held: &mut [u8], t: &mut [u64], out: &mut [u8], place: Place) -> St
     }
 }
 
-// The line of a record. It is granted where its word is that of a granted block.
+// The line of a record.
 fn put_block(w: u64, out: &mut [u8], at: usize) -> usize
     requires { ⌜ at ≤ length (now out) ⌝ }
     ensures { λ r. ⌜ r ≤ length (now (out .exit)) ⌝ }
+    ensures { λ r. ⌜ Put (blockLine w) (now (out .entry)) at r (now (out .exit)) ⌝ }
 {
     let start = table::start_of(w);
     let class = table::class_of(w);
-    let granted = table::record_word(true, class, start) == w;
+    let granted = table::mark_of(w) == 1;
     lines::put_record(start, class, granted, out, at)
 }
 

@@ -4,17 +4,17 @@ use mathlib.Core.Bool.{Bool}
 use mathlib.Core.List.{List, [], _∷_, _++_, map}
 use Prim.Native.Nat.{ℕ, suc, _+_, _-_, _%_, _^_, _≤_, _<_}
 use native.Mathlib.Omega.{arith}
-use lib.ListN.{length, take, drop, getD, set, replicate}
+use lib.ListN.{length, take, drop, getD, set}
 use borrow.Author.Tests.{lt-ltb, le-ltb}
 use Rattle.answers.specs.declared.Answer.the-variants.{Done, Refused}
 use Rattle.answers.specs.declared.Refusal.the-variants.{NoRoom}
 use Rattle.rules.specs.Rules.{Block, class, start, end, blockAt, towards, halved}
 use Rattle.rules.proofs.Halving.{length-towards}
 use Rattle.rules.proofs.Lists.{stands-at}
-use Rattle.table.specs.Layout.{State, orderOf, countOf, classOf, startOf, endOf, blockOf, blocksOf, stateOf, wordOf, headOf, wordsOf, pad}
+use Rattle.table.specs.Layout.{State, orderOf, countOf, classOf, startOf, endOf, blockOf, blocksOf, wordOf, headOf, wordsOf, pad}
 use Rattle.table.proofs.Facts.{sound-fact}
 use Rattle.table.proofs.Replacing.{replaced, length-replaced, splice-done}
-use Rattle.table.proofs.State.{state, head-fits, sound-blocks, length-blocks, block-at, table-is, tail-zero}
+use Rattle.table.proofs.State.{state, head-fits, sound-blocks, length-blocks, block-at, table-is}
 use Rattle.frame_core.specs.Halve.{Halvable, halving}
 use Rattle.frame_core.specs.Deciding.{Decision, refused, done, refuse, judge}
 use Rattle.frame_core.specs.Carried.{Reply, carried, replyOf, Says}
@@ -45,13 +45,6 @@ module _ (ws : List ℕ) (i c : ℕ) (can : Halvable ws i c) where
         short = omega arith;
         order = omega arith;
       }
-
-  -- what move_tail asks
-  pub tail-clear : ((k : ℕ) → getD ws k 0 < 2 ^ 64) → (last : ℕ) → last ≡ countOf (getD ws 0 0) + 1 → drop last ws ≡ replicate (length ws - last) 0
-  tail-clear fits last e =
-      let k = known in
-      let n : length (blocksOf ws) ≡ countOf (getD ws 0 0) = length-blocks ws (can .sound) in
-      tail-zero (length ws) (stateOf ws) ws last (table-is ws (can .sound) fits) (omega arith) (omega arith)
 
   module _ (run : ℕ) where
     -- the blocks afterwards, by what the block's word says

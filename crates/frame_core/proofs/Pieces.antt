@@ -4,7 +4,7 @@ use mathlib.Core.Bool.{false}
 use mathlib.Core.List.{List, _∷_, _++_, map}
 use Prim.Native.Nat.{ℕ, suc, _+_, _-_, _%_, _^_, _≤_, _<_, min}
 use native.Mathlib.Omega.{arith}
-use lib.ListN.{length, take, drop, getD, set, replicate}
+use lib.ListN.{length, take, drop, getD, set}
 use lib.Pow.{pow-pos}
 use borrow.Author.Tests.{lt-ltb, le-ltb}
 use Rattle.answers.specs.declared.Answer.the-variants.{Done, Refused}
@@ -17,9 +17,9 @@ use Rattle.blocks.proofs.Rounding.{size-class}
 use Rattle.rules.specs.Rules.{Block, blk, added}
 use Rattle.rules.proofs.Adding.{Range, rest-range, piecesOf, cut-none, cut-step}
 use Rattle.rules.proofs.Ranges.{added-here}
-use Rattle.table.specs.Layout.{State, orderOf, countOf, blocksOf, stateOf, wordOf, headOf, wordsOf, pad}
+use Rattle.table.specs.Layout.{State, orderOf, countOf, blocksOf, wordOf, headOf, wordsOf, pad}
 use Rattle.table.proofs.Facts.{sound-fact}
-use Rattle.table.proofs.State.{state, record-fits, head-fits, sound-blocks, length-blocks, table-is, tail-zero}
+use Rattle.table.proofs.State.{state, record-fits, head-fits, sound-blocks, length-blocks, table-is}
 use Rattle.table.proofs.Writing.{filled, fill-turn, fill-done}
 use Rattle.table.proofs.Replacing.{replaced, length-replaced, splice-done}
 use Rattle.frame_core.specs.Add.{Addable, Placed}
@@ -110,12 +110,6 @@ module _
 
     pub range : Range (order - 1) s (e - s)
     range = let b = bounds in record { order = omega arith; within = omega arith }
-
-    pub zero-after : ((k : ℕ) → getD ws k 0 < 2 ^ 64) → drop (count + 1) ws ≡ replicate (length ws - (count + 1)) 0
-    zero-after f =
-        let b = bounds in
-        let l = length-blocks ws (q .sound) in
-        tail-zero (length ws) (stateOf ws) ws (count + 1) (table-is ws (q .sound) f) (omega arith) (omega arith)
 
     -- the blocks afterwards, and how many they are
     after : added (orderOf (getD ws 0 0) - 1) s e (blocksOf ws) ≡ replaced i i (new order s e) (blocksOf ws)

@@ -6,15 +6,15 @@ use Prim.Native.Nat.{ℕ, _+_, _-_, _%_, _^_, _≤_, _<_}
 use native.Mathlib.Numerals.{add-one}
 use native.Mathlib.Omega.{arith}
 use lib.Pow.{pow-pos}
-use lib.ListN.{length, take, drop, getD, set, replicate, length-append}
+use lib.ListN.{length, take, drop, getD, set, length-append}
 use lib.Seq.{set-split, length-take-le}
 use Rattle.answers.specs.declared.Answer.the-variants.{Done}
 use Rattle.rules.specs.Rules.{Block, blk}
-use Rattle.table.specs.Layout.{State, orderOf, countOf, blocksOf, stateOf, wordOf, headOf, wordsOf, pad}
+use Rattle.table.specs.Layout.{State, orderOf, countOf, blocksOf, wordOf, headOf, wordsOf, pad}
 use Rattle.table.proofs.Facts.{sound-fact}
 use Rattle.table.proofs.Pad.{length-pad}
 use Rattle.table.proofs.Replacing.{replaced, length-replaced, splice-done}
-use Rattle.table.proofs.State.{state, record-fits, head-fits, length-blocks, table-is, tail-zero}
+use Rattle.table.proofs.State.{state, record-fits, head-fits, length-blocks, table-is}
 use Rattle.frame_core.specs.Carried.{carried, Says, replyOf}
 use Rattle.frame_core.specs.Release.{Releasable, Joins, releasedAt}
 
@@ -35,13 +35,6 @@ module _ (ws : List ℕ) (i count : ℕ) (p : Releasable ws i) (counted : count 
         short = f .head .short;
         order = omega (arith, f .head .high);
       }
-
-  -- what move_tail asks
-  pub tail-clear : ((k : ℕ) → getD ws k 0 < 2 ^ 64) → drop (count + 1) ws ≡ replicate (length ws - (count + 1)) 0
-  tail-clear below =
-      let k = known in
-      let n : length (blocksOf ws) ≡ countOf (getD ws 0 0) = length-blocks ws (p .sound) in
-      tail-zero (length ws) (stateOf ws) ws (count + 1) (table-is ws (p .sound) below) (omega arith) (omega arith)
 
   module _ (from to k s : ℕ) (w : Joins ws i from to k s) where
     pub released : ((j : ℕ) → getD ws j 0 < 2 ^ 64) → (order head v : ℕ) (moved : List ℕ) → order ≡ orderOf (getD ws 0 0)

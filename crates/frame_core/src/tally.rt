@@ -13,14 +13,11 @@ pub struct Figures {
     pub largest: u64,
 }
 
-// A record's word from here on has the granted mark, its topmost bit.
-const GRANTED: u64 = 0x8000_0000_0000_0000;
-
 // The frames of a record that are free: its size, or none where it is granted.
 fn free_of(w: u64, size: u64) -> u64
     ensures { λ r. ⌜ r ≡ freeOf w size ⌝ }
 {
-    if GRANTED <= w { 0 } else { size }
+    if table::mark_of(w) == 1 { 0 } else { size }
 }
 
 fn larger(a: u64, b: u64) -> u64

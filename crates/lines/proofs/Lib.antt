@@ -7,3 +7,4 @@ pub mod Gathering
 pub mod Feeding
 pub mod Reading
 pub mod Lengths
+pub mod OneSaying

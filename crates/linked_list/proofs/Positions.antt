@@ -7,8 +7,8 @@ use native.Mathlib.Nat.{not-suc-le-zero}
 use native.Mathlib.Omega.{arith}
 use lib.Dec.{eqb}
 use lib.ListN.{length, length-append}
-use borrow.Author.Tests.{eqb-true, eq-eqb, ne-eqb, ltb-true, lt-ltb}
-use Rattle.linked_list.specs.Links.{pickN, position, linkTo, searched, removed}
+use borrow.Author.Tests.{eqb-true, eq-eqb, ne-eqb, ltb-true, ltb-false, lt-ltb}
+use Rattle.linked_list.specs.Links.{pickN, position, linkTo, compared, searched, removed}
 use Rattle.linked_list.specs.Chains.{Chain, Lists, Away, without}
 use Rattle.linked_list.proofs.Chains.{distinct, distinct-at}
 use Rattle.linked_list.proofs.Removing.{unlink-chain}
@@ -82,3 +82,10 @@ position-away node (u ∷ us) zs w =
 
 pub chain-position : (arena : List ℕ) (head node : ℕ) (us zs : List ℕ) → Chain arena head (us ++ node ∷ zs) → position node (us ++ node ∷ zs) ≡ length us
 chain-position arena head node us zs c = position-away node us zs (distinct-at node us zs (distinct arena head (us ++ node ∷ zs) c) .0)
+
+-- so many nodes are compared with a node of a chain; with any other, all
+pub chain-compared : (arena : List ℕ) (head node : ℕ) (us zs : List ℕ) → Chain arena head (us ++ node ∷ zs) → compared node (us ++ node ∷ zs) ≡ suc (length us)
+chain-compared arena head node us zs c = omega (arith, chain-position arena head node us zs c, length-append us (node ∷ zs))
+
+pub compared-all : (node : ℕ) (xs : List ℕ) → searched node xs .found ≡ false → compared node xs ≡ length xs
+compared-all node xs e = omega (arith, ltb-false (position node xs) (length xs) e)

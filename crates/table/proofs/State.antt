@@ -236,3 +236,11 @@ module _
           apart = rw r (m .apart);
           zeros = rw (c, words-zero n st fits) (zeros-made (n - (length (st .blocks) + 1)));
         })
+
+-- what move_tail asks of a sound table: all words after the records are zero
+pub zeros-after : (ws : List ℕ) → soundb ws ≡ true → ((k : ℕ) → getD ws k 0 < 2 ^ 64) → (end : ℕ) → end ≡ countOf (getD ws 0 0) + 1
+    → drop end ws ≡ replicate (length ws - end) 0
+zeros-after ws sound fits end e =
+    let n : length (blocksOf ws) ≡ countOf (getD ws 0 0) = length-blocks ws sound in
+    let h = sound-fact ws sound .head in
+    tail-zero (length ws) (stateOf ws) ws end (table-is ws sound fits) (omega (arith, h .room, h .long)) (omega arith)

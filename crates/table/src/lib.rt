@@ -8,6 +8,7 @@ mod splice;
 pub use layout::class_of;
 pub use layout::count_of;
 pub use layout::end_of;
+pub use layout::mark_of;
 pub use layout::order_of;
 pub use layout::start_of;
 pub use lookup::place;

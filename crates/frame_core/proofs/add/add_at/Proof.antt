@@ -1,10 +1,12 @@
 -- `frame_core::add::add_at` meets its contract: what it reads keeps to the bounds, and the moved tail, the written pieces and word 0 are the table
 -- that has the pieces. Assumes nothing.
+use Prim.Native.Nat.{_+_}
 use mathlib.Core.Path.{_≡_, refl, _∙_}
 use native.Mathlib.Omega.{arith}
 use lib.ListN.{length, length-set}
 use borrow.Author.Needs.{needs}
-use Rattle.frame_core.proofs.Pieces.{bounds, range, zero-after, refuses, places}
+use Rattle.table.proofs.State.{zeros-after}
+use Rattle.frame_core.proofs.Pieces.{bounds, range, refuses, places}
 use Rattle.frame_core.proofs.add.add_at.Statement.{statement}
 use Rattle.frame_core.proofs.add.add_at.Tie as tie
 
@@ -78,7 +80,7 @@ move-tail-requires c κs =
     let r = c .before .before .before in
     let s = r .before .before .before .before in
     let b = bounds (s .pre) (r .before .order-of .ensures) (r .count-of .ensures) in
-    (omega arith, omega arith, omega arith, zero-after (s .pre) (r .before .order-of .ensures) (r .count-of .ensures) (λ k. r .before .before .before .slice-known .given k .fits))
+    (omega arith, omega arith, omega arith, zeros-after (s .args .t .now) (s .pre .sound) (λ k. r .before .before .before .slice-known .given k .fits) (r .count-of .result + 1) (omega (arith, r .count-of .ensures)))
 
 write-pieces-requires : tie.Need-write-pieces-requires
 write-pieces-requires c κs =

@@ -3,7 +3,8 @@ use mathlib.Core.Path.{ap}
 use Prim.Native.Nat.{ℕ, _+_, _^_}
 use native.Mathlib.Omega.{arith}
 use lib.ListN.{length-set}
-use Rattle.frame_core.proofs.Halves.{known, tail-clear, stays, grants}
+use Rattle.table.proofs.State.{zeros-after}
+use Rattle.frame_core.proofs.Halves.{known, stays, grants}
 use borrow.Author.Needs.{needs}
 use Rattle.frame_core.proofs.halve.halve.Statement.{statement}
 use Rattle.frame_core.proofs.halve.halve.Tie as tie
@@ -78,7 +79,7 @@ move-tail-requires c κs =
       omega (arith, n .count-of .ensures),
       omega (arith, n .count-of .ensures),
       omega arith,
-      tail-clear (a .t .now) (a .i) (a .class) (s .pre) (λ x. g .slice-known .given x .fits) (n .count-of .result + 1) (omega (arith, n .count-of .ensures)),
+      zeros-after (a .t .now) (s .pre .sound) (λ x. g .slice-known .given x .fits) (n .count-of .result + 1) (omega (arith, n .count-of .ensures)),
     )
 
 add-write-halves : tie.Need-add-write-halves

@@ -1,8 +1,10 @@
 -- `frame_core::release::release_at` meets its contract: the span that `join` found is closed by one splice. Assumes nothing.
+use Prim.Native.Nat.{_+_}
 use mathlib.Core.Path.{refl}
 use native.Mathlib.Omega.{arith}
 use lib.ListN.{length-set}
-use Rattle.frame_core.proofs.Releases.{known, tail-clear, released}
+use Rattle.table.proofs.State.{zeros-after}
+use Rattle.frame_core.proofs.Releases.{known, released}
 use borrow.Author.Needs.{needs}
 use Rattle.frame_core.proofs.release.release_at.Statement.{statement}
 use Rattle.frame_core.proofs.release.release_at.Tie as tie
@@ -38,7 +40,7 @@ move-tail-requires c κs =
       omega (arith, w .within, n .count-of .ensures),
       omega (arith, k .long),
       omega (arith, w .low, w .high, k .long),
-      tail-clear (s .args .t .now) (s .args .i) (n .count-of .result) (s .pre) (n .count-of .ensures) (λ j. g .slice-known .given j .fits),
+      zeros-after (s .args .t .now) (s .pre .sound) (λ j. g .slice-known .given j .fits) (n .count-of .result + 1) (omega (arith, n .count-of .ensures)),
     )
 
 record-word-requires : tie.Need-record-word-requires
