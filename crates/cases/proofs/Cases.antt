@@ -15,9 +15,12 @@ use Rattle.frame_core.specs.Carried.{Outcome}
 use Rattle.frame.specs.Outcome.{decide, outcome, making}
 use Rattle.blocks.specs.Blocks.{roundedAligned, isPowerOfTwo}
 use Rattle.linked_list.specs.Links as links
-use Rattle.heap_core.specs.Lists as lists
-use Rattle.heap_core.specs.Sound as blocks
-use Rattle.heap_core.specs.Outcome as heap
+use Rattle.heap_state.specs.Lists as lists
+use Rattle.ledger.specs.Ledger as ledgers
+use Rattle.heap_state.specs.Sound as blocks
+use Rattle.heap_state.specs.State as state
+use Rattle.heap_core.specs.Deciding as deciding
+use Rattle.heap.specs.Outcome as heap
 use Rattle.cases.specs.Cases.{Step, HeapStep, Run, frames, heaps, Case, replied, heard, heardHeap, Holds, Every, CaseHolds, caseTable}
 
 -- the words of a table without records
@@ -25,8 +28,8 @@ abbrev fresh : ℕ → ℕ → List ℕ
 fresh order n = wordsOf n (record { order = order; blocks = [] })
 
 -- a heap without blocks over an arena, with m ledger words
-abbrev freshHeap : ℕ → List ℕ → ℕ → heap.State
-freshHeap order arena m = record { heap = heap.freshHeap order; arena = arena; ledger = replicate m 0 }
+abbrev freshHeap : ℕ → List ℕ → ℕ → state.State
+freshHeap order arena m = record { heap = state.freshHeap order; arena = arena; ledger = replicate m 0 }
 
 -- "1 BAD_ORDER" and "2 BAD_SIZE"
 abbrev badOrder : ℕ → Bool
@@ -43,9 +46,9 @@ made order lent a b = rw (a, b)
 
 -- the same of a heap, of its ledger
 heap-made : (order : ℕ) (arena ledger : List ℕ) → blocks.orderb order ≡ true → blocks.lengthsb (length arena) (length ledger) ≡ true
-    → heap.making order arena ledger ≡ record { number = 0; value = 0; state = freshHeap order arena (length ledger) }
-unfolding heap.making
-heap-made order arena ledger a b = ap₂ (λ (x y : Bool). heap.madeIf x y order arena ledger) a b
+    → state.making order arena ledger ≡ record { number = 0; value = 0; state = freshHeap order arena (length ledger) }
+unfolding state.making
+heap-made order arena ledger a b = ap₂ (λ (x y : Bool). state.madeIf x y order arena ledger) a b
 
 -- what is computed of a run, whatever words were lent, and what must come of it
 data Computed : Type 0 where
@@ -73,8 +76,8 @@ run-holds (heaps order n m steps) c = λ ledger e.
     let s : heardHeap steps (freshHeap order (replicate n 0) m) ≡ steps = cc in
     let l : blocks.lengthsb (length {A = ℕ} (replicate n 0)) (length ledger) ≡ true = ap (λ (k : ℕ). blocks.lengthsb k (length ledger)) (length-replicate n 0) ∙ ap (blocks.lengthsb n) e ∙ b in
     let h = heap-made order (replicate n 0) ledger a l in (
-      ap (λ (o : heap.Outcome). o .number) h,
-      ap (λ (o : heap.Outcome). heardHeap steps (o .state)) h ∙ ap (λ (k : ℕ). heardHeap steps (freshHeap order (replicate n 0) k)) e ∙ s,
+      ap (λ (o : state.Outcome). o .number) h,
+      ap (λ (o : state.Outcome). heardHeap steps (o .state)) h ∙ ap (λ (k : ℕ). heardHeap steps (freshHeap order (replicate n 0) k)) e ∙ s,
     )
 
 -- one equation for the whole list, so that the checker computes it at once
@@ -88,5 +91,5 @@ all-hold (x ∷ xs) c = (runs-hold (x .runs) (cc), all-hold xs (cc))
 
 -- each call is computed over all words: the test of the table, what it says, what the call decides, and the words that are left
 pub cases-hold : Every CaseHolds caseTable
-unfolding trailingZeros sizeOf sizeClass firstHolding rounded largestPower prevPowerOfTwo lowestBit buddyOf lowestOrTop pieceSize cutFrom cut added towards serving containing joined released halved headb recordb soundb adding granting grantingAt releasing decide outcome roundedAligned isPowerOfTwo links.nodes links.position lists.push lists.pop lists.remove lists.pushAll lists.split lists.splitDown lists.joinUp lists.release blocks.rangesb blocks.reaches blocks.recordb blocks.countersb blocks.soundb heap.adding heap.granting heap.releasing heap.decide heap.outcome
+unfolding trailingZeros sizeOf sizeClass firstHolding rounded largestPower prevPowerOfTwo lowestBit buddyOf lowestOrTop pieceSize cutFrom cut added towards serving containing joined released halved headb recordb soundb adding granting grantingAt releasing decide outcome roundedAligned isPowerOfTwo links.nodes links.position lists.push lists.pop lists.remove lists.pushAll lists.split lists.splitDown lists.joinUp lists.release blocks.rangesb blocks.reaches ledgers.recordb blocks.countersb blocks.soundb deciding.adding deciding.granting deciding.releasing heap.decide heap.outcome
 cases-hold = all-hold caseTable refl

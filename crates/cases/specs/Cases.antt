@@ -8,8 +8,9 @@ use Rattle.rules.specs.Rules.{Block, blk}
 use Rattle.table.specs.Layout.{blocksOf}
 use Rattle.frame_core.specs.Carried.{Reply}
 use Rattle.frame.specs.Outcome.{Call, Add, Alloc, AllocAt, Dealloc, outcome, making}
-use Rattle.heap_core.specs.Outcome as heap
-use Rattle.heap_core.specs.Sound as blocks
+use Rattle.heap.specs.Outcome as heap
+use Rattle.heap_state.specs.State as state
+use Rattle.heap_state.specs.Sound as blocks
 
 -- ---- what the paper says
 
@@ -60,7 +61,7 @@ heard (s ∷ ss) ws =
     record { call = s .call; reply = outcome (s .call) ws .reply; leaves = map (found (outcome (s .call) ws .words)) (s .leaves) }
     ∷ heard ss (outcome (s .call) ws .words)
 
-abbrev pub heardHeap : List HeapStep → heap.State → List HeapStep
+abbrev pub heardHeap : List HeapStep → state.State → List HeapStep
 heardHeap [] st = []
 heardHeap (s ∷ ss) st =
     record {
@@ -75,7 +76,7 @@ heardHeap (s ∷ ss) st =
 abbrev pub Holds : Run → Type 0
 Holds (frames order n steps) = (lent : List ℕ) → length lent ≡ n → (making order lent .reply ≡ replied 0 0) × (heard steps (making order lent .words) ≡ steps)
 Holds (heaps order n m steps) = (ledger : List ℕ) → length ledger ≡ m
-    → (heap.making order (replicate n 0) ledger .number ≡ 0) × (heardHeap steps (heap.making order (replicate n 0) ledger .state) ≡ steps)
+    → (state.making order (replicate n 0) ledger .number ≡ 0) × (heardHeap steps (state.making order (replicate n 0) ledger .state) ≡ steps)
 
 -- each entry of a list has a property
 abbrev pub Every : {A : Type 0} → (A → Type 0) → List A → Type 0

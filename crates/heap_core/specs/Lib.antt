@@ -1,4 +1,1 @@
-pub mod Ledger
-pub mod Lists
-pub mod Sound
-pub mod Outcome
+pub mod Deciding

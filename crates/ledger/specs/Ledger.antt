@@ -2,8 +2,10 @@
 -- addresses, the rest zero."
 use mathlib.Core.Bool.{Bool, true, false, _&&_}
 use mathlib.Core.List.{List, [], _∷_, map}
-use Prim.Native.Nat.{ℕ, _+_, _*_, _/_, _%_, _^_}
+use Prim.Native.Nat.{ℕ, suc, _+_, _*_, _/_, _%_, _^_}
 use lib.Dec.{eqb, leb, ltb}
+use lib.ListN.{take}
+use Rattle.words.specs.Words.{pad}
 
 -- a granted block: its class, the bytes that were asked for, and its address
 pub data Grant : Type 0 where
@@ -51,3 +53,26 @@ strike p (x ∷ xs) = elim (p x) [ true ↦ strike p xs | false ↦ x ∷ strike
 abbrev pub some : (Grant → Bool) → List Grant → Bool
 some p [] = false
 some p (x ∷ xs) = elim (p x) [ true ↦ true | false ↦ some p xs ]
+
+-- ---- the words, and what they say
+
+-- the granted blocks of a ledger with so many records
+abbrev pub grants : ℕ → List ℕ → List Grant
+grants count ledger = map grantOf (take count ledger)
+
+-- the whole ledger of n words of these granted blocks: "the rest zero"
+abbrev pub ledgerWords : ℕ → List Grant → List ℕ
+ledgerWords n gs = pad n (map wordOf gs)
+
+-- "ledger records obey their layout, with class 3 to ORDER-1 and a block that holds the request"
+unfoldable pub recordb : ℕ → ℕ → Bool
+recordb order w = eqb (gapOf w) 0 && leb 3 (classOf w) && ltb (classOf w) order && leb (requestedOf w) (2 ^ classOf w)
+
+abbrev pub recordsb : ℕ → List ℕ → Bool
+recordsb order [] = true
+recordsb order (w ∷ ws) = recordb order w && recordsb order ws
+
+-- "ascending addresses"; an address before the first would be below `floor`
+abbrev pub ascendingb : ℕ → List ℕ → Bool
+ascendingb floor [] = true
+ascendingb floor (w ∷ ws) = leb floor (addressOf w) && ascendingb (suc (addressOf w)) ws

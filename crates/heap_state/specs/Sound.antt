@@ -3,11 +3,12 @@ use mathlib.Core.Bool.{Bool, true, false, _&&_, _||_}
 use mathlib.Core.List.{List, [], _∷_, _++_, map}
 use Prim.Native.Nat.{ℕ, zero, suc, _+_, _-_, _*_, _%_, _^_}
 use lib.Dec.{leb, ltb, eqb}
-use lib.ListN.{length, getD, take, drop}
-use Rattle.heap_core.specs.declared.Heap.{Heap}
-use Rattle.heap_core.specs.Ledger.{Grant, grant, class, requested, address, classOf, requestedOf, gapOf, addressOf, grantOf}
+use lib.ListN.{length, take, drop}
 use Rattle.linked_list.specs.Links.{next}
-use Rattle.heap_core.specs.Lists.{Memory, list}
+use Rattle.words.specs.Words.{zerosb}
+use Rattle.ledger.specs.Ledger.{Grant, grant, requested, grants, recordsb, ascendingb}
+use Rattle.heap_state.specs.declared.Heap.{Heap}
+use Rattle.heap_state.specs.Lists.{Memory, list}
 
 -- a block of bytes, free or granted: its class and its address
 pub data Block : Type 0 where
@@ -37,24 +38,6 @@ abbrev pub listsb : List ℕ → List ℕ → Bool
 listsb arena [] = true
 listsb arena (a ∷ rest) = reaches (length arena - 1) arena a && listsb arena rest
 
--- "ledger records obey their layout, with class 3 to ORDER-1 and a block that holds the request"
-unfoldable pub recordb : ℕ → ℕ → Bool
-recordb order w = eqb (gapOf w) 0 && leb 3 (classOf w) && ltb (classOf w) order && leb (requestedOf w) (2 ^ classOf w)
-
-abbrev pub recordsb : ℕ → List ℕ → Bool
-recordsb order [] = true
-recordsb order (w ∷ ws) = recordb order w && recordsb order ws
-
--- "ascending addresses"; an address before the first would be below `floor`
-abbrev pub ascendingb : ℕ → List ℕ → Bool
-ascendingb floor [] = true
-ascendingb floor (w ∷ ws) = leb floor (addressOf w) && ascendingb (suc (addressOf w)) ws
-
--- "the rest zero"
-abbrev pub zerosb : List ℕ → Bool
-zerosb [] = true
-zerosb (w ∷ ws) = eqb w 0 && zerosb ws
-
 -- ---- the blocks
 
 -- the free blocks: the nodes of each list, of class k and up
@@ -65,12 +48,15 @@ freeFrom (suc n) k m = map (blk k) (list k m) ++ freeFrom n (suc k) m
 abbrev pub freeBlocks : Heap → List ℕ → List Block
 freeBlocks h arena = freeFrom 33 0 (record { heads = h .heads; arena = arena })
 
--- the granted blocks, as the ledger has them
-abbrev pub grants : Heap → List ℕ → List Grant
-grants h ledger = map grantOf (take (h .count) ledger)
-
 abbrev pub blockOf : Grant → Block
 blockOf (grant k n a) = blk k a
+
+-- the granted blocks, as the ledger has them
+abbrev pub grantedBlocks : Heap → List ℕ → List Block
+grantedBlocks h ledger = map blockOf (grants (h .count) ledger)
+
+abbrev pub allBlocks : Heap → List ℕ → List ℕ → List Block
+allBlocks h arena ledger = freeBlocks h arena ++ grantedBlocks h ledger
 
 -- "free and granted blocks are aligned, above address 0, inside the arena"
 abbrev pub placedb : ℕ → List Block → Bool
@@ -102,12 +88,10 @@ requests (g ∷ gs) = requested g + requests gs
 -- "user, allocated and total equal the sums of requested bytes, of granted blocks, and of granted and free blocks"
 unfoldable pub countersb : Heap → List ℕ → List ℕ → Bool
 countersb h arena ledger =
-    eqb (h .user) (requests (grants h ledger)) && eqb (h .allocated) (bytesOf (map blockOf (grants h ledger)))
-    && eqb (h .total) (bytesOf (map blockOf (grants h ledger)) + bytesOf (freeBlocks h arena))
+    eqb (h .user) (requests (grants (h .count) ledger)) && eqb (h .allocated) (bytesOf (grantedBlocks h ledger)) && eqb (h .total) (bytesOf (allBlocks h arena ledger))
 
 unfoldable pub soundb : Heap → List ℕ → List ℕ → Bool
 soundb h arena ledger =
     rangesb h arena ledger && headsb (h .order) 0 (h .heads) && listsb arena (h .heads)
     && recordsb (h .order) (take (h .count) ledger) && ascendingb 0 (take (h .count) ledger) && zerosb (drop (h .count) ledger)
-    && placedb (length arena * 8) (freeBlocks h arena ++ map blockOf (grants h ledger)) && disjointb (freeBlocks h arena ++ map blockOf (grants h ledger))
-    && countersb h arena ledger
+    && placedb (length arena * 8) (allBlocks h arena ledger) && disjointb (allBlocks h arena ledger) && countersb h arena ledger

@@ -1,36 +1,19 @@
--- What each call on a heap answers and leaves, from docs/RULES.md, "The heap over an arena" and "Refusal numbers".
+-- What each call decides on a sound heap, from docs/RULES.md, "The heap over an arena" and "Refusal numbers".
 use mathlib.Core.Bool.{Bool, true, false, not, _&&_, _||_}
-use mathlib.Core.List.{List, [], _∷_, _++_, map}
-use Prim.Native.Nat.{ℕ, zero, suc, _+_, _-_, _*_, _/_, _^_, max}
+use mathlib.Core.List.{List, [], _∷_, _++_}
+use Prim.Native.Nat.{ℕ, _+_, _-_, _*_, _/_, _^_, max}
 use lib.Dec.{eqb, leb, ltb}
 use lib.ListN.{length, take, drop, replicate}
 use Rattle.answers.specs.declared.Refusal.{Refusal}
-use Rattle.answers.specs.declared.Refusal.the-variants.{BadOrder, BadSize, BadState, BadRange, NullStart, Overlap, BadAlign, NoBlock, NotGranted, NoRoom}
+use Rattle.answers.specs.declared.Refusal.the-variants.{BadRange, NullStart, Overlap, BadAlign, NoBlock, NotGranted, NoRoom}
 use Rattle.answers.specs.Paper.{numberOf}
 use Rattle.blocks.specs.declared.Rounded.{Rounded}
 use Rattle.blocks.specs.declared.Rounded.the-variants.{Class, Above}
 use Rattle.blocks.specs.Blocks.{roundedAligned, isPowerOfTwo}
-use Rattle.heap_core.specs.declared.Heap.{Heap}
-use Rattle.heap_core.specs.Ledger.{Grant, grant, same, enter, strike, some, wordOf}
-use Rattle.heap_core.specs.Lists.{Memory, head, pop, pushAll, firstClass, splitDown, Released, release}
-use Rattle.heap_core.specs.Sound.{Block, blk, lengthsb, orderb, soundb, freeBlocks, grants, blockOf}
-
--- the calls on an existing heap
-pub data Call : Type 0 where
-  Init : ℕ → ℕ → Call
-  AddToHeap : ℕ → ℕ → Call
-  Alloc : ℕ → ℕ → Call
-  Dealloc : ℕ → ℕ → ℕ → Call
-  ZeroFill : ℕ → ℕ → ℕ → Call
-  StatsAllocUser : Call
-  StatsAllocActual : Call
-  StatsTotalBytes : Call
-
--- the heap record, and the words of the arena and of the ledger
-pub record State : Type 0 where
-  pub heap : Heap
-  pub arena : List ℕ
-  pub ledger : List ℕ
+use Rattle.ledger.specs.Ledger.{Grant, grant, same, enter, strike, some, grants, ledgerWords}
+use Rattle.heap_state.specs.Lists.{Memory, head, pop, pushAll, firstClass, splitDown, release}
+use Rattle.heap_state.specs.Sound.{Block, blk, allBlocks}
+use Rattle.heap_state.specs.State.{State, Outcome}
 
 -- what a call decides on a sound heap: a refusal, or a value and the state afterwards
 pub data Decision : Type 0 where
@@ -57,7 +40,7 @@ abbrev pub top : State → ℕ
 top s = s .heap .order - 1
 
 abbrev pub granted : State → List Grant
-granted s = grants (s .heap) (s .ledger)
+granted s = grants (s .heap .count) (s .ledger)
 
 -- "Sizes are in bytes, at least 8": the class of a size and an alignment; 33, a class of no heap, above every block
 abbrev pub wanted : Rounded → ℕ
@@ -92,14 +75,10 @@ unfoldable pub adding : ℕ → ℕ → State → Decision
 adding s e st =
     judge
     (refuse (ltb (bytes st) s || ltb (bytes st) e || ltb (roundDown e) (roundUp s)) BadRange ∷ refuse (eqb (roundUp s) 0 && ltb 0 (roundDown e)) NullStart
-    ∷ refuse (meets (roundUp s) (roundDown e) (freeBlocks (st .heap) (st .arena) ++ map blockOf (granted st))) Overlap ∷ [])
+    ∷ refuse (meets (roundUp s) (roundDown e) (allBlocks (st .heap) (st .arena) (st .ledger))) Overlap ∷ [])
     (done 0 (withLists st (pushAll (roundDown e - roundUp s) (top st) (roundUp s) (roundDown e - roundUp s) (memory st)) (st .heap .total + (roundDown e - roundUp s))))
 
 -- ---- granting and releasing, with the ledger and the counters
-
--- the ledger's words of these granted blocks, the rest zero
-abbrev pub ledgerWords : ℕ → List Grant → List ℕ
-ledgerWords n gs = map wordOf gs ++ replicate (n - length gs) 0
 
 abbrev pub withGrants : State → Memory → List Grant → ℕ → ℕ → State
 withGrants s m gs user allocated =
@@ -147,41 +126,7 @@ zeroing a size align st =
       ledger = st .ledger;
     }))
 
-unfoldable pub decide : Call → State → Decision
-decide (Init s n) st = adding s (s + n) st
-decide (AddToHeap s e) st = adding s e st
-decide (Alloc size align) st = granting size align st
-decide (Dealloc a size align) st = releasing a size align st
-decide (ZeroFill a size align) st = zeroing a size align st
-decide StatsAllocUser st = done (st .heap .user) st
-decide StatsAllocActual st = done (st .heap .allocated) st
-decide StatsTotalBytes st = done (st .heap .total) st
-
--- ---- the outcome: number, value, and the state afterwards
-
-pub record Outcome : Type 0 where
-  pub number : ℕ
-  pub value : ℕ
-  pub state : State
-
--- "Each returns its number and 0, and changes no word. An accepted call returns number 0"
+-- ---- what a decision comes to: "Each returns its number and 0, and changes no word. An accepted call returns number 0"
 abbrev pub carried : State → Decision → Outcome
 carried st (refused r) = record { number = numberOf r; value = 0; state = st }
 carried st (done v after) = record { number = 0; value = v; state = after }
-
-unfoldable pub outcome : Call → State → Outcome
-outcome call st = elim (soundb (st .heap) (st .arena) (st .ledger)) [ true ↦ carried st (decide call st) | false ↦ carried st (refused BadState) ]
-
--- ---- making: "`new` and `empty` make the same fresh heap record"; "Refused, they return a record of zeros"; "Making a heap zeroes the ledger and
--- does not touch the arena"
-abbrev pub freshHeap : ℕ → Heap
-freshHeap order = record { order = order; heads = replicate 33 0; count = 0; user = 0; allocated = 0; total = 0 }
-
--- whether the ORDER is in range, and the lengths
-abbrev pub madeIf : Bool → Bool → ℕ → List ℕ → List ℕ → Outcome
-madeIf false lengths order arena ledger = record { number = numberOf BadOrder; value = 0; state = record { heap = freshHeap 0; arena = arena; ledger = ledger } }
-madeIf true false order arena ledger = record { number = numberOf BadSize; value = 0; state = record { heap = freshHeap 0; arena = arena; ledger = ledger } }
-madeIf true true order arena ledger = record { number = 0; value = 0; state = record { heap = freshHeap order; arena = arena; ledger = replicate (length ledger) 0 } }
-
-unfoldable pub making : ℕ → List ℕ → List ℕ → Outcome
-making order arena ledger = madeIf (orderb order) (lengthsb (length arena) (length ledger)) order arena ledger

@@ -1,0 +1,1 @@
+// The public calls on a heap, named as in the Rust.

@@ -1,0 +1,18 @@
+// The heap over an arena: its record, when it is sound, and its making.
+use answers::Answer;
+
+// ORDER, the heads of the 33 lists of free blocks, the number of ledger records, and three counts of bytes.
+pub struct Heap {
+    pub order: u64,
+    pub heads: [u64; 33],
+    pub count: u64,
+    pub user: u64,
+    pub allocated: u64,
+    pub total: u64,
+}
+
+// What a call answers, and the record that it leaves.
+pub struct Reply {
+    pub answer: Answer,
+    pub heap: Heap,
+}

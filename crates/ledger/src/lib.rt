@@ -1,0 +1,1 @@
+// The words of a heap's ledger, which records the granted blocks.
