@@ -13,7 +13,7 @@ use Rattle.rules.specs.declared.Found.{Found}
 use Rattle.rules.specs.declared.Found.the-variants.{At, Nowhere}
 use Rattle.rules.proofs.Serving.{better, not-better, other-class, orElse-assoc, none-left}
 use Rattle.table.specs.Layout.{countOf, markOf, classOf, startOf, blockOf, blocksOf}
-use Rattle.table.proofs.Tests.{both}
+use Rattle.words.proofs.Tests.{both}
 use Rattle.frame_core.specs.Pick.{keyOf, betterb}
 use Rattle.frame_core.proofs.Records.{from, from-step, from-none}
 

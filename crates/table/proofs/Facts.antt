@@ -9,7 +9,7 @@ use lib.Pow.{pow-pos, pow-mono}
 use borrow.Author.Tests.{leb-true, ltb-true, eqb-true, le-leb, lt-ltb, eq-eqb}
 use Rattle.table.specs.Layout.{orderOf, countOf, restOf, classOf, gapOf, startOf, endOf, records}
 use Rattle.table.specs.Sound.{headb, recordb, recordsb, apartb, zerosb, soundb}
-use Rattle.table.proofs.Tests.{both}
+use Rattle.words.proofs.Tests.{both}
 
 -- word 0 of a table of n words
 pub record Head (n w : ℕ) : Type 0 where

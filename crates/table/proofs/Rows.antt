@@ -15,7 +15,7 @@ use borrow.Author.Tests.{leb-true, ltb-true, eqb-true, le-leb, lt-ltb, eq-eqb}
 use Rattle.table.specs.Layout.{classOf, gapOf, startOf, endOf}
 use Rattle.table.specs.Sound.{recordb, recordsb, apartb}
 use Rattle.table.specs.Scan.{below33, maskOf, Lap, cleanb, nextEnd, endAfter}
-use Rattle.table.proofs.Tests.{no, clash, both, join, same, and-false}
+use Rattle.words.proofs.Tests.{no, clash, both, join, same, and-false}
 use Rattle.table.proofs.Facts.{Fine, record-true, record-fact, size-pos}
 use Rattle.table.proofs.Words.{slice-past, or-le, or-zero, or-gap, or-class}
 

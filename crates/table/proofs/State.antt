@@ -14,7 +14,7 @@ use borrow.Author.Tests.{eqb-true, eqb-false, leb-true, le-leb}
 use Rattle.rules.specs.Rules.{Block, blk, Sound, none, next, blockAt}
 use Rattle.table.specs.Layout.{State, orderOf, countOf, markOf, classOf, gapOf, startOf, endOf, blockOf, records, blocksOf, stateOf, wordOf, headOf, wordsOf}
 use Rattle.table.specs.Sound.{recordb, recordsb, apartb, zerosb, soundb}
-use Rattle.table.proofs.Tests.{both, join}
+use Rattle.words.proofs.Tests.{both, join}
 use Rattle.table.proofs.Facts.{record-true, record-fact, sound-true, sound-fact}
 use Rattle.table.proofs.Pad.{length-pad, getD-pad, pad-fits}
 

@@ -12,7 +12,7 @@ use lib.Seq.{getD-drop}
 use lib.Bits.{bitOr}
 use borrow.Author.Tests.{eqb-true, eq-eqb, ltb-true, ltb-false}
 use Rattle.table.specs.Sound.{zerosb}
-use Rattle.table.proofs.Tests.{both, join, same}
+use Rattle.words.proofs.Tests.{both, join, same}
 use Rattle.table.proofs.Words.{or-zero}
 
 zero-in : (ws : List ℕ) → zerosb ws ≡ true → (k : ℕ) → getD ws k 0 ≡ 0

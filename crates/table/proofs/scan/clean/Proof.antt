@@ -3,7 +3,7 @@ use Prim.Native.Nat.{_-_}
 use mathlib.Core.Path.{sym}
 use native.Mathlib.Omega.{arith}
 use borrow.Author.Needs.{needs}
-use Rattle.table.proofs.Tests.{no}
+use Rattle.words.proofs.Tests.{no}
 use Rattle.table.proofs.Words.{bit}
 use Rattle.table.proofs.Rows.{clean-fact, clean-true}
 use Rattle.table.proofs.scan.clean.Statement.{statement}

@@ -2,7 +2,7 @@
 use mathlib.Core.Path.{sym}
 use native.Mathlib.Omega.{arith}
 use borrow.Author.Needs.{needs}
-use Rattle.table.proofs.Tests.{no}
+use Rattle.words.proofs.Tests.{no}
 use Rattle.table.proofs.Facts.{head-fact, head-true}
 use Rattle.table.proofs.scan.head_ok.Statement.{statement}
 use Rattle.table.proofs.scan.head_ok.Tie as tie

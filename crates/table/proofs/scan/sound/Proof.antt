@@ -3,7 +3,7 @@ use mathlib.Core.Path.{sym, _∙_}
 use native.Mathlib.Omega.{arith}
 use borrow.Author.Needs.{needs}
 use borrow.Author.Tests.{not-true, not-false}
-use Rattle.table.proofs.Tests.{no, clash, both, join}
+use Rattle.words.proofs.Tests.{no, clash, both, join}
 use Rattle.table.proofs.Facts.{head-fact, head-true, sound-fact, sound-true}
 use Rattle.table.proofs.scan.sound.Statement.{statement}
 use Rattle.table.proofs.scan.sound.Tie as tie
