@@ -135,7 +135,8 @@ pub fn piece(start: u64, left: u64, top: u64) -> u64
     least(lowest_bit(start), within)
 }
 
-fn least(a: u64, b: u64) -> u64
+// The smaller of two numbers.
+pub fn least(a: u64, b: u64) -> u64
     ensures { λ r. ⌜ r ≡ min a b ⌝ }
 {
     if a < b { a } else { b }
