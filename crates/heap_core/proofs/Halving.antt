@@ -96,7 +96,7 @@ halving-turn from class k m₀ m₂ m₃ heads arena t size f more h e es e₂ e
     let p = block-popped (getD heads k 0) arena t e in
     let hi : k ≤ from = h .high in
     let s : m₃ ≡ split (k - 1) (mem heads arena) =
-        split-by k (t .block) size (mem heads arena) _ m₂ m₃ (omega arith) (pop-is heads arena k (t .head) (p .link)) e₂ e₃ (p .block) (es ∙ size-is (k - 1) (omega arith)) in
+    split-by k (t .block) size (mem heads arena) _ m₂ m₃ (omega arith) (pop-is heads arena k (t .head) (p .link)) e₂ e₃ (p .block) (es ∙ size-is (k - 1) (omega arith)) in
     let back : suc (k - 1) ≡ k = omega arith in
     record {
       rest = rw s (sym (turns k class (mem heads arena) more) ∙ h .rest);

@@ -69,7 +69,7 @@ module _ (top k low before : ℕ) (m : Memory) (b n : ℕ) (s : Search) where
       let one : k + 1 ≡ suc k = omega arith in
       let w : next ≡ min low (buddyOf k low) = en ∙ ap (min low) (l .0) in
       let t : m₃ ≡ push (suc k) (min low (buddyOf k low)) (pop k (remove k (buddyOf k low) m)) =
-          e₃ ∙ ap (λ (j : ℕ). push j next m₂) one ∙ ap₂ (λ (a : ℕ) (x : Memory). push (suc k) a x) w (e₂ ∙ ap (pop k) (e₁ ∙ removed-is l)) in
+      e₃ ∙ ap (λ (j : ℕ). push j next m₂) one ∙ ap₂ (λ (a : ℕ) (x : Memory). push (suc k) a x) w (e₂ ∙ ap (pop k) (e₁ ∙ removed-is l)) in
       ap (λ (x : Search). joinUp (top - (k + 1)) (k + 1) next (before + x .compared) m₃) e
       ∙ ap (λ (j : ℕ). joinUp (top - (k + 1)) j next (before + compared (buddyOf k low) (list k m)) m₃) one
       ∙ ap₂ (λ (a : ℕ) (x : Memory). joinUp (top - (k + 1)) (suc k) a (before + compared (buddyOf k low) (list k m)) x) w t

@@ -1,7 +1,9 @@
 -- Forms of the promises of the parts in src/: heads and arena as one memory.
 use mathlib.Core.Path.{_≡_}
+use mathlib.Core.Bool.{Bool, _&&_}
 use mathlib.Core.List.{List}
 use Prim.Native.Nat.{ℕ, _+_, _-_, _^_, _≤_, _<_}
+use lib.Dec.{ltb}
 use lib.ListN.{length}
 use Rattle.answers.specs.declared.Answer.{Answer}
 use Rattle.answers.specs.declared.Answer.the-variants.{Done}
@@ -31,3 +33,7 @@ takenOut class previous node m = withList class (removed (head class m) (m .aren
 
 abbrev pub released : ℕ → Memory → Released
 released compared m = record { memory = m; nodes-compared = compared }
+
+-- a block of `size` bytes at the address has a byte in [start, end), which is not empty
+abbrev pub meetsBlock : ℕ → ℕ → ℕ → ℕ → Bool
+meetsBlock address size start end = ltb address end && ltb start (address + size)

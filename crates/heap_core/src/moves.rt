@@ -62,7 +62,13 @@ fn take_out(heads: &mut [u64; 33], arena: &mut [u64], class: u64, previous: Prev
 }
 
 // The block becomes free, and is joined with its buddy as long as that is free too, below class `top`. Answers how many nodes were compared.
-pub(crate) fn release_block(heads: &mut [u64; 33], arena: &mut [u64], top: u64, class: u64, block: u64) -> u64
+pub(crate) fn release_block(
+    heads: &mut [u64; 33],
+    arena: &mut [u64],
+    top: u64,
+    class: u64,
+    block: u64,
+) -> u64
     requires { ⌜ (class < 33) × (top < 33) × (length (now arena) ≤ 1048576) ⌝ }
     ensures { λ r. ⌜ released r (mem (now (heads .exit)) (now (arena .exit))) ≡ release top class block (mem (now (heads .entry)) (now (arena .entry))) ⌝ }
 {
