@@ -9,7 +9,7 @@ use borrow.Author.Tests.{lt-ltb, le-ltb}
 use Rattle.answers.specs.declared.Answer.the-variants.{Done, Refused}
 use Rattle.answers.specs.declared.Refusal.the-variants.{BadOrder, BadSize}
 use Rattle.table.specs.Layout.{headOf, wordsOf}
-use Rattle.table.proofs.Pad.{pad-nil}
+use Rattle.words.proofs.Pad.{pad-nil}
 use Rattle.table.proofs.State.{state}
 use Rattle.frame_core.specs.Carried.{replyOf, Says}
 use Rattle.frame.specs.Outcome.{making}

@@ -29,7 +29,7 @@ pub fn new(t: &mut [u64], order: u64) -> Answer
     if 65536 < t.len() {
         return Answer::Refused(Refusal::BadSize);
     }
-    table::clear(t);
+    words::clear(t);
     t[0] = table::head_word(order, 0);
     Answer::Done(0)
 }

@@ -11,7 +11,8 @@ use Rattle.answers.specs.declared.Refusal.the-variants.{NoRoom}
 use Rattle.rules.specs.Rules.{Block, class, start, end, blockAt, towards, halved}
 use Rattle.rules.proofs.Halving.{length-towards}
 use Rattle.rules.proofs.Lists.{stands-at}
-use Rattle.table.specs.Layout.{State, orderOf, countOf, classOf, startOf, endOf, blockOf, blocksOf, wordOf, headOf, wordsOf, pad}
+use Rattle.table.specs.Layout.{State, orderOf, countOf, classOf, startOf, endOf, blockOf, blocksOf, wordOf, headOf, wordsOf}
+use Rattle.words.specs.Words.{pad}
 use Rattle.table.proofs.Facts.{sound-fact}
 use Rattle.table.proofs.Replacing.{replaced, length-replaced, splice-done}
 use Rattle.table.proofs.State.{state, head-fits, sound-blocks, length-blocks, block-at, table-is}

@@ -17,10 +17,11 @@ use Rattle.blocks.proofs.Rounding.{size-class}
 use Rattle.rules.specs.Rules.{Block, blk, added}
 use Rattle.rules.proofs.Adding.{Range, rest-range, piecesOf, cut-none, cut-step}
 use Rattle.rules.proofs.Ranges.{added-here}
-use Rattle.table.specs.Layout.{State, orderOf, countOf, blocksOf, wordOf, headOf, wordsOf, pad}
+use Rattle.table.specs.Layout.{State, orderOf, countOf, blocksOf, wordOf, headOf, wordsOf}
+use Rattle.words.specs.Words.{pad}
 use Rattle.table.proofs.Facts.{sound-fact}
 use Rattle.table.proofs.State.{state, record-fits, head-fits, sound-blocks, length-blocks, table-is}
-use Rattle.table.proofs.Writing.{filled, fill-turn, fill-done}
+use Rattle.words.proofs.Writing.{filled, fill-turn, fill-done}
 use Rattle.table.proofs.Replacing.{replaced, length-replaced, splice-done}
 use Rattle.frame_core.specs.Add.{Addable, Placed}
 use Rattle.frame_core.specs.Deciding.{judge}

@@ -10,9 +10,10 @@ use lib.ListN.{length, take, drop, getD, set, length-append}
 use lib.Seq.{set-split, length-take-le}
 use Rattle.answers.specs.declared.Answer.the-variants.{Done}
 use Rattle.rules.specs.Rules.{Block, blk}
-use Rattle.table.specs.Layout.{State, orderOf, countOf, blocksOf, wordOf, headOf, wordsOf, pad}
+use Rattle.table.specs.Layout.{State, orderOf, countOf, blocksOf, wordOf, headOf, wordsOf}
+use Rattle.words.specs.Words.{pad}
 use Rattle.table.proofs.Facts.{sound-fact}
-use Rattle.table.proofs.Pad.{length-pad}
+use Rattle.words.proofs.Pad.{length-pad}
 use Rattle.table.proofs.Replacing.{replaced, length-replaced, splice-done}
 use Rattle.table.proofs.State.{state, record-fits, head-fits, length-blocks, table-is}
 use Rattle.frame_core.specs.Carried.{carried, Says, replyOf}

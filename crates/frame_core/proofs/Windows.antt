@@ -12,7 +12,7 @@ use Rattle.rules.specs.Rules.{Block, blk, towards}
 use Rattle.rules.proofs.Halving.{halve-low, halve-high, halve-done}
 use Rattle.table.specs.Layout.{wordOf}
 use Rattle.table.proofs.State.{record-fits}
-use Rattle.table.proofs.Writing.{low-turn, high-turn, window-done}
+use Rattle.words.proofs.Writing.{low-turn, high-turn, window-done}
 
 -- t with the records of the blocks bs in the window [lo, hi)
 abbrev pub window : List ℕ → ℕ → ℕ → List Block → List ℕ

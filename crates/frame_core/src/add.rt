@@ -7,7 +7,7 @@ ghost use lib.ListN.{length, getD};
 ghost use Rattle.rules.proofs.Adding.{Range, piecesOf};
 ghost use Rattle.table.specs.Layout.{orderOf, countOf, wordOf, blocksOf};
 ghost use Rattle.table.specs.Sound.{soundb};
-ghost use Rattle.table.proofs.Writing.{filled};
+ghost use Rattle.words.proofs.Writing.{filled};
 ghost use Rattle.frame_core.specs.Add.{Addable, Placed, startsBefore};
 ghost use Rattle.frame_core.specs.Deciding.{adding};
 ghost use Rattle.frame_core.specs.Carried.{carried, Says, replyOf};
@@ -32,7 +32,7 @@ fn add_at(t: &mut [u64], i: usize, start: u64, end: u64) -> Answer
         return Answer::Refused(Refusal::NoRoom);
     }
     let at = i + 1;
-    table::move_tail(t, at, at + more, count + 1);
+    words::move_tail(t, at, at + more, count + 1);
     write_pieces(t, at, start, n, top);
     t[0] = table::head_word(order, (count + more) as u64);
     Answer::Done(0)

@@ -24,7 +24,7 @@ pub(crate) fn halve(t: &mut [u64], i: usize, class: u64, run: u64) -> Answer
     if t.len() - 1 < count + more {
         return Answer::Refused(Refusal::NoRoom);
     }
-    table::move_tail(t, i + 2, i + 2 + more, count + 1);
+    words::move_tail(t, i + 2, i + 2 + more, count + 1);
     write_halves(t, i + 1, class, run, from, table::start_of(w));
     t[0] = table::head_word(table::order_of(head), (count + more) as u64);
     Answer::Done(run)

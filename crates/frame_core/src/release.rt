@@ -97,7 +97,7 @@ fn release_at(t: &mut [u64], i: usize) -> Answer
     let span = join(t, i);
     let from = span.from;
     let to = span.to;
-    table::move_tail(t, to + 1, from + 2, count + 1);
+    words::move_tail(t, to + 1, from + 2, count + 1);
     t[from + 1] = table::record_word(false, span.class, span.start);
     t[0] = table::head_word(table::order_of(head), (count - (to - from) + 1) as u64);
     Answer::Done(0)

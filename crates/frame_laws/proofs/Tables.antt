@@ -8,7 +8,7 @@ use lib.ListN.{length}
 use Rattle.rules.specs.Rules.{Block, Sound}
 use Rattle.table.specs.Layout.{State, blocksOf, stateOf, wordsOf}
 use Rattle.table.specs.Sound.{soundb}
-use Rattle.table.proofs.Pad.{length-pad}
+use Rattle.words.proofs.Pad.{length-pad}
 use Rattle.table.proofs.State.{state, state-back, table-sound}
 use Rattle.frame_core.specs.Carried.{carried}
 use Rattle.frame.specs.Outcome.{Call, zeros, decide, outcome}

@@ -8,7 +8,8 @@ use lib.ListN.{length, getD, drop}
 use lib.Pow.{pow-pos, pow-mono}
 use borrow.Author.Tests.{leb-true, ltb-true, eqb-true, le-leb, lt-ltb, eq-eqb}
 use Rattle.table.specs.Layout.{orderOf, countOf, restOf, classOf, gapOf, startOf, endOf, records}
-use Rattle.table.specs.Sound.{headb, recordb, recordsb, apartb, zerosb, soundb}
+use Rattle.table.specs.Sound.{headb, recordb, recordsb, apartb, soundb}
+use Rattle.words.specs.Words.{zerosb}
 use Rattle.words.proofs.Tests.{both}
 
 -- word 0 of a table of n words

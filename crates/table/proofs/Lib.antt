@@ -1,10 +1,6 @@
 pub mod Facts
 pub mod Words
 pub mod Rows
-pub mod Zeros
-pub mod Pad
 pub mod State
 pub mod Search
-pub mod Moving
-pub mod Writing
 pub mod Replacing

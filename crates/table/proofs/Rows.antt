@@ -17,7 +17,8 @@ use Rattle.table.specs.Sound.{recordb, recordsb, apartb}
 use Rattle.table.specs.Scan.{below33, maskOf, Lap, cleanb, nextEnd, endAfter}
 use Rattle.words.proofs.Tests.{no, clash, both, join, same, and-false}
 use Rattle.table.proofs.Facts.{Fine, record-true, record-fact, size-pos}
-use Rattle.table.proofs.Words.{slice-past, or-le, or-zero, or-gap, or-class}
+use Rattle.words.proofs.Ors.{or-le, or-zero}
+use Rattle.table.proofs.Words.{slice-past, or-gap, or-class}
 
 -- ---- one record after a block that ends at floor
 

@@ -13,10 +13,12 @@ use lib.Seq.{slice, slice-cons, length-slice, take-at, drop-at, getD-take, getD-
 use borrow.Author.Tests.{eqb-true, eqb-false, leb-true, le-leb}
 use Rattle.rules.specs.Rules.{Block, blk, Sound, none, next, blockAt}
 use Rattle.table.specs.Layout.{State, orderOf, countOf, markOf, classOf, gapOf, startOf, endOf, blockOf, records, blocksOf, stateOf, wordOf, headOf, wordsOf}
-use Rattle.table.specs.Sound.{recordb, recordsb, apartb, zerosb, soundb}
+use Rattle.table.specs.Sound.{recordb, recordsb, apartb, soundb}
 use Rattle.words.proofs.Tests.{both, join}
 use Rattle.table.proofs.Facts.{record-true, record-fact, sound-true, sound-fact}
-use Rattle.table.proofs.Pad.{length-pad, getD-pad, pad-fits}
+use Rattle.words.proofs.Pad.{length-pad, getD-pad, pad-fits}
+use Rattle.words.proofs.Zeros.{zeros-are, zeros-made}
+use Rattle.words.proofs.Parts.{front-below}
 
 abbrev pub state : ℕ → List Block → State
 state order bs = record { order = order; blocks = bs }
@@ -106,26 +108,7 @@ words-made {order} {floor} l h (next {g = g} {k = k} {s = s} {bs = bs} low small
       back = rw (block-of-word g k s (omega arith) (omega (arith, pow-pos k)), r .back);
     }
 
--- ---- zero words
-
-zeros-are : (ws : List ℕ) → zerosb ws ≡ true → ws ≡ replicate (length ws) 0
-zeros-are [] e = refl
-zeros-are (w ∷ ws) e =
-    let p = both (eqb w 0) (zerosb ws) e in
-    ap (λ (x : ℕ). x ∷ ws) (eqb-true w 0 (p .0)) ∙ ap (λ (l : List ℕ). 0 ∷ l) (zeros-are ws (p .1))
-
-zeros-made : (n : ℕ) → zerosb (replicate n 0) ≡ true
-zeros-made zero = refl
-zeros-made (suc n) = zeros-made n
-
 -- ---- what a sound table says
-
--- where all words are below a bound, those of a front are
-front-below : (n : ℕ) (ws : List ℕ) (bound : ℕ) → 0 < bound → ((i : ℕ) → getD ws i 0 < bound) → (i : ℕ) → getD (take n ws) i 0 < bound
-front-below zero ws bound p h i = p
-front-below (suc n) [] bound p h i = p
-front-below (suc n) (w ∷ ws) bound p h zero = h 0
-front-below (suc n) (w ∷ ws) bound p h (suc i) = front-below n ws bound p (λ k. h (suc k)) i
 
 module _ (ws : List ℕ) (sound : soundb ws ≡ true) where
   pub sound-blocks : Sound (orderOf (getD ws 0 0) - 1) 0 (blocksOf ws)

@@ -7,7 +7,7 @@ use native.Mathlib.Omega.{arith}
 use lib.ListN.{take, length-take, drop-of-length-le}
 use lib.Seq.{slice}
 use lib.Pow.{shl-exact}
-use lib.Bits.{bitOr, or-add-and, and-le-l, and-le-r, or-shr, or-mod}
+use lib.Bits.{bitOr, or-shr, or-mod}
 use Rattle.table.specs.Layout.{classOf, gapOf}
 
 pub slice-past : (i e : ℕ) (ws : List ℕ) → e ≤ i → slice i e ws ≡ []
@@ -16,17 +16,6 @@ slice-past i e ws h = drop-of-length-le (take e ws) {i = i} (simp length-take (o
 -- `1 << k`, of 32 or 64 bits
 pub bit : (k width : ℕ) → k < width → 1 * 2 ^ k % 2 ^ width ≡ 2 ^ k
 bit k width h = shl-exact 1 k width (omega arith) (omega arith) ∙ simp one-mul
-
--- each of two numbers or-ed is at most the result
-pub or-le : (a b : ℕ) → (a ≤ bitOr a b) × (b ≤ bitOr a b)
-or-le a b =
-    let s = or-add-and a b in
-    let l = and-le-l a b in
-    let r = and-le-r a b in
-    (omega arith, omega arith)
-
-pub or-zero : (a b : ℕ) → bitOr a b ≡ 0 → (a ≡ 0) × (b ≡ 0)
-or-zero a b e = let h = or-le a b in (omega arith, omega arith)
 
 -- the fields of words or-ed
 pub or-gap : (a b : ℕ) → gapOf (bitOr a b) ≡ bitOr (gapOf a) (gapOf b)

@@ -1,10 +1,11 @@
 -- The words of a frame table, from docs/RULES.md, "The frame table": "Fields are packed most significant first."
 use mathlib.Core.Bool.{Bool, true, false}
-use mathlib.Core.List.{List, [], _∷_, map}
-use Prim.Native.Nat.{ℕ, zero, suc, _+_, _*_, _/_, _%_, _^_}
+use mathlib.Core.List.{List, _∷_, map}
+use Prim.Native.Nat.{ℕ, _+_, _*_, _/_, _%_, _^_}
 use lib.Dec.{eqb}
 use lib.ListN.{length, getD}
 use lib.Seq.{slice}
+use Rattle.words.specs.Words.{pad}
 use Rattle.rules.specs.Rules.{Block, blk}
 
 -- what a table says: its ORDER, and its blocks in ascending start
@@ -64,12 +65,6 @@ wordOf (blk g k s) = markWord g + k * 0x200_0000_0000_0000 + s
 
 abbrev pub headOf : State → ℕ
 headOf st = st .order * 0x400_0000_0000_0000 + length (st .blocks) * 0x400_0000_0000
-
--- a list of words cut, or filled up with zeros, to n words
-abbrev pub pad : ℕ → List ℕ → List ℕ
-pad zero ws = []
-pad (suc n) [] = 0 ∷ pad n []
-pad (suc n) (w ∷ ws) = w ∷ pad n ws
 
 -- the whole table of n words
 abbrev pub wordsOf : ℕ → State → List ℕ

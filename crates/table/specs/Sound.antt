@@ -4,6 +4,7 @@ use mathlib.Core.List.{List, [], _∷_}
 use Prim.Native.Nat.{ℕ, _+_, _-_, _%_, _^_}
 use lib.Dec.{leb, ltb, eqb}
 use lib.ListN.{length, getD, drop}
+use Rattle.words.specs.Words.{zerosb}
 use Rattle.table.specs.Layout.{orderOf, countOf, restOf, classOf, gapOf, startOf, endOf, records}
 
 -- "its length, ORDER and count are in range": "1 to 65,536 words"; "ORDER is 1 to 33"; "Capacity is length minus 1"; "zero fields .. are zero"
@@ -23,11 +24,7 @@ abbrev pub apartb : ℕ → List ℕ → Bool
 apartb floor [] = true
 apartb floor (w ∷ ws) = leb floor (startOf w) && apartb (endOf w) ws
 
--- "zero words are zero"
-abbrev pub zerosb : List ℕ → Bool
-zerosb [] = true
-zerosb (w ∷ ws) = eqb w 0 && zerosb ws
-
+-- the last of these: "zero words are zero"
 unfoldable pub soundb : List ℕ → Bool
 soundb ws =
     headb (length ws) (getD ws 0 0) && recordsb (orderOf (getD ws 0 0)) (records ws) && apartb 0 (records ws)

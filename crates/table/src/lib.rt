@@ -1,9 +1,8 @@
-// The words of a frame table: their fields, whether a table is sound, where a frame is, and the splice.
+// The words of a frame table: their fields, whether a table is sound, and where a frame is.
 mod layout;
 mod lookup;
 mod pack;
 mod scan;
-mod splice;
 
 pub use layout::class_of;
 pub use layout::count_of;
@@ -15,5 +14,3 @@ pub use lookup::place;
 pub use pack::head_word;
 pub use pack::record_word;
 pub use scan::sound;
-pub use splice::clear;
-pub use splice::move_tail;

@@ -9,10 +9,10 @@ use crate::layout::rest_of;
 ghost use mathlib.Core.Path.{_≡_};
 ghost use mathlib.Core.Bool.{_&&_};
 ghost use Prim.Native.Nat.{_+_, _-_, _^_, _≤_, _<_};
-ghost use lib.ListN.{length, drop};
+ghost use lib.ListN.{length};
 ghost use lib.Seq.{slice};
 ghost use Rattle.table.specs.Layout.{startOf};
-ghost use Rattle.table.specs.Sound.{headb, recordb, recordsb, apartb, zerosb, soundb};
+ghost use Rattle.table.specs.Sound.{headb, recordb, recordsb, apartb, soundb};
 ghost use Rattle.table.specs.Scan.{below33, maskOf, Lap, cleanb, endAfter, Part};
 
 pub fn sound(t: &[u64]) -> bool
@@ -30,7 +30,7 @@ pub fn sound(t: &[u64]) -> bool
     if !records_ok(t, order_of(head), end) {
         return false;
     }
-    if !zeros_from(t, end) {
+    if !words::zeros_from(t, end) {
         return false;
     }
     true
@@ -190,51 +190,4 @@ fn clean(order: u64, words: u64, overs: u32, masks: u32, laps: u32) -> bool
         return false;
     }
     true
-}
-
-// The words from from on are zero. Two rows of ors do not wait for each other, which pays where there are many.
-fn zeros_from(t: &[u64], from: usize) -> bool
-    ensures { λ r. ⌜ r ≡ zerosb (drop from (now (t .entry))) ⌝ }
-{
-    if t.len() < 256 {
-        return zeros_one_row(t, from);
-    }
-    zeros_two_rows(t, from)
-}
-
-fn zeros_one_row(t: &[u64], from: usize) -> bool
-    ensures { λ r. ⌜ r ≡ zerosb (drop from (now (t .entry))) ⌝ }
-{
-    let mut row: u64 = 0;
-    let mut i = from;
-    while i < t.len() {
-        row = row | t[i];
-        i += 1;
-    }
-    row == 0
-}
-
-// The words are two halves, and one more where their number is odd.
-fn zeros_two_rows(t: &[u64], from: usize) -> bool
-    ensures { λ r. ⌜ r ≡ zerosb (drop from (now (t .entry))) ⌝ }
-{
-    let n = t.len();
-    if from >= n {
-        return true;
-    }
-    let half = (n - from) / 2;
-    let mid = from + half;
-    let mut a: u64 = 0;
-    let mut b: u64 = 0;
-    let mut i = from;
-    while i < mid {
-        a = a | t[i];
-        b = b | t[i + half];
-        i += 1;
-    }
-    let odd = i + half;
-    if odd < n {
-        return (a | (b | t[odd])) == 0;
-    }
-    (a | b) == 0
 }

@@ -1,11 +1,13 @@
--- Loops that write a run of words in place, told by what is still to be written. Assumes nothing.
-use mathlib.Core.Path.{_≡_, _∙_}
+-- A run of words written in place: loops told by what is still to be written, and a run in a gap that a moved tail leaves. Assumes nothing.
+use mathlib.Core.Path.{_≡_, sym, ap, _∙_}
 use mathlib.Core.List.{List, [], _∷_, _++_, append-assoc}
 use Prim.Native.Nat.{ℕ, suc, _+_, _-_, _≤_, _<_}
 use native.Mathlib.Numerals.{add-one}
 use native.Mathlib.Omega.{arith}
-use lib.ListN.{length, take, drop, set, length-set, take-append-drop}
-use lib.Seq.{drop-cons, drop-set-lt, take-set-le, take-suc-set, getD-set-same}
+use lib.ListN.{length, take, drop, set, length-set, length-append, take-append-drop}
+use lib.Seq.{length-take-le, take-append-le, take-take, drop-at, drop-cons, drop-set-lt, take-set-le, take-suc-set, getD-set-same}
+use Rattle.words.specs.Words.{pad}
+use Rattle.words.proofs.Pad.{pad-append}
 
 -- ---- upward: `filled t p ws n` is t with the n words ws from p on
 
@@ -42,3 +44,20 @@ high-turn t r lo hi w h l =
 
 pub window-done : (t : List ℕ) (lo hi : ℕ) → lo ≡ hi → take lo t ++ ([] ++ drop hi t) ≡ t
 window-done t lo hi e = rw e (take-append-drop hi t)
+
+-- ---- in a gap that a moved tail leaves
+
+-- a tail moved to p, then a run written from i up to p
+pub run-written : (ws moved run new : List ℕ) (i p from : ℕ) → p ≡ i + length new → p ≤ length ws
+    → moved ≡ take p ws ++ pad (length ws - p) (drop from ws) → run ≡ take i moved ++ (new ++ drop p moved)
+    → run ≡ pad (length ws) (take i ws ++ (new ++ drop from ws))
+run-written ws moved run new i p from e h q r =
+    let lp : length (take p ws) ≡ p = length-take-le p ws h in
+    let li : length (take i ws) ≡ i = length-take-le i ws (omega arith) in
+    let a : take i moved ≡ take i ws = rw q (take-append-le i (take p ws) _ (omega arith) ∙ take-take i p ws (omega arith)) in
+    let b : drop p moved ≡ pad (length ws - p) (drop from ws) = rw q (drop-at (take p ws) _ p lp) in
+    let n : length (take i ws ++ new) ≡ p = simp length-append (omega arith) in
+    let s : length ws ≡ length (take i ws ++ new) + (length ws - p) = omega arith in
+    r ∙ rw (a, b, ← append-assoc) (sym (pad-append (take i ws ++ new) (drop from ws) (length ws - p)))
+    ∙ ap (λ (k : ℕ). pad k ((take i ws ++ new) ++ drop from ws)) (sym s)
+    ∙ ap (λ (x : List ℕ). pad (length ws) x) (append-assoc (take i ws) new (drop from ws))

@@ -6,7 +6,7 @@ use native.Mathlib.Nat.{le-of-suc-le-suc, not-suc-le-zero, suc-add, zero-add, su
 use native.Mathlib.Omega.{arith}
 use lib.ListN.{length, take, drop, getD, replicate}
 use lib.Seq.{take-append-le, drop-append-le}
-use Rattle.table.specs.Layout.{pad}
+use Rattle.words.specs.Words.{pad}
 
 pub length-pad : (n : ℕ) (ws : List ℕ) → length (pad n ws) ≡ n
 length-pad zero ws = refl

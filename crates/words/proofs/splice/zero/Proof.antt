@@ -1,11 +1,11 @@
--- `table::splice::zero` meets its contract: the words from k on are zero. Assumes nothing.
+-- `words::splice::zero` meets its contract: the words from k on are zero. Assumes nothing.
 use mathlib.Core.Path.{_≡_, refl, ap, _∙_}
 use Prim.Native.Nat.{ℕ, _-_, _≤_}
 use native.Mathlib.Omega.{arith}
 use lib.ListN.{length, length-set}
-use Rattle.table.proofs.Moving.{zeroed, zero-turn, zero-none}
-use Rattle.table.proofs.splice.zero.Statement.{statement}
-use Rattle.table.proofs.splice.zero.Tie as tie
+use Rattle.words.proofs.Moving.{zeroed, zero-turn, zero-none}
+use Rattle.words.proofs.splice.zero.Statement.{statement}
+use Rattle.words.proofs.splice.zero.Tie as tie
 
 abbrev Inv-loop : tie.InvT-loop
 Inv-loop t₀ from end k₀ t k = (from ≤ k) × (k ≤ end) × (length t ≡ length t₀) × (t ≡ zeroed t₀ k end)

@@ -1,11 +1,11 @@
--- `table::scan::zeros_two_rows` meets its contract. Assumes nothing.
+-- `words::scan::zeros_two_rows` meets its contract. Assumes nothing.
 use Prim.Native.Nat.{_+_, _-_, _/_, _≤_}
 use mathlib.Core.Path.{_≡_, refl, sym}
 use native.Mathlib.Omega.{arith}
 use lib.ListN.{length}
-use Rattle.table.proofs.Zeros.{Row, row-start, row-or, zeros-past, two-rows}
-use Rattle.table.proofs.scan.zeros_two_rows.Statement.{statement}
-use Rattle.table.proofs.scan.zeros_two_rows.Tie as tie
+use Rattle.words.proofs.Zeros.{Row, row-start, row-or, zeros-past, two-rows}
+use Rattle.words.proofs.scan.zeros_two_rows.Statement.{statement}
+use Rattle.words.proofs.scan.zeros_two_rows.Tie as tie
 
 abbrev Inv-loop : tie.InvT-loop
 Inv-loop t from n half mid a₀ b₀ i₀ a b i = (from ≤ i) × (i ≤ mid) × Row t from 0 i a × Row t from half i b

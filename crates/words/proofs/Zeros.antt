@@ -1,5 +1,5 @@
--- The words after the records, or-ed in one row or in two. Assumes nothing.
-use mathlib.Core.Path.{_≡_, refl}
+-- Words that are zero: what the test says, and the words or-ed in one row or in two. Assumes nothing.
+use mathlib.Core.Path.{_≡_, refl, ap, _∙_}
 use mathlib.Core.Bool.{Bool, true, false}
 use mathlib.Core.List.{List, [], _∷_}
 use mathlib.Core.Logic.{⊎-elim}
@@ -7,13 +7,13 @@ use Prim.Native.Nat.{ℕ, zero, suc, _+_, _-_, _≤_, _<_}
 use native.Mathlib.Nat.{eq-or-lt-of-le}
 use native.Mathlib.Omega.{arith}
 use lib.Dec.{ltb, eqb}
-use lib.ListN.{length, getD, drop, length-drop, drop-of-length-le}
+use lib.ListN.{length, getD, drop, replicate, length-drop, drop-of-length-le}
 use lib.Seq.{getD-drop}
 use lib.Bits.{bitOr}
 use borrow.Author.Tests.{eqb-true, eq-eqb, ltb-true, ltb-false}
-use Rattle.table.specs.Sound.{zerosb}
+use Rattle.words.specs.Words.{zerosb}
 use Rattle.words.proofs.Tests.{both, join, same}
-use Rattle.table.proofs.Words.{or-zero}
+use Rattle.words.proofs.Ors.{or-zero}
 
 zero-in : (ws : List ℕ) → zerosb ws ≡ true → (k : ℕ) → getD ws k 0 ≡ 0
 zero-in [] e k = refl
@@ -23,6 +23,16 @@ zero-in (w ∷ ws) e (suc k) = zero-in ws (both (eqb w 0) (zerosb ws) e .1) k
 zero-all : (ws : List ℕ) → ((k : ℕ) → k < length ws → getD ws k 0 ≡ 0) → zerosb ws ≡ true
 zero-all [] h = refl
 zero-all (w ∷ ws) h = join _ _ (eq-eqb _ _ (h 0 (omega arith))) (zero-all ws (λ k l. h (suc k) (omega arith)))
+
+pub zeros-are : (ws : List ℕ) → zerosb ws ≡ true → ws ≡ replicate (length ws) 0
+zeros-are [] e = refl
+zeros-are (w ∷ ws) e =
+    let p = both (eqb w 0) (zerosb ws) e in
+    ap (λ (x : ℕ). x ∷ ws) (eqb-true w 0 (p .0)) ∙ ap (λ (l : List ℕ). 0 ∷ l) (zeros-are ws (p .1))
+
+pub zeros-made : (n : ℕ) → zerosb (replicate n 0) ≡ true
+zeros-made zero = refl
+zeros-made (suc n) = zeros-made n
 
 -- the words from `from` on are zero: each by its index
 pub zeros-at : (from : ℕ) (ws : List ℕ) → zerosb (drop from ws) ≡ true → (k : ℕ) → from ≤ k → getD ws k 0 ≡ 0

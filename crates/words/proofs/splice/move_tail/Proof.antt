@@ -1,10 +1,10 @@
--- `table::splice::move_tail` meets its contract: no move, a move up into zeros, or a move down with zeros written after it. Assumes nothing.
+-- `words::splice::move_tail` meets its contract: no move, a move up into zeros, or a move down with zeros written after it. Assumes nothing.
 use borrow.Author.Needs.{needs}
 use mathlib.Core.Path.{_∙_}
 use native.Mathlib.Omega.{arith}
-use Rattle.table.proofs.Moving.{tail-still, tail-up, tail-down}
-use Rattle.table.proofs.splice.move_tail.Statement.{statement}
-use Rattle.table.proofs.splice.move_tail.Tie as tie
+use Rattle.words.proofs.Moving.{tail-still, tail-up, tail-down}
+use Rattle.words.proofs.splice.move_tail.Statement.{statement}
+use Rattle.words.proofs.splice.move_tail.Tie as tie
 
 returns : tie.Need-returns
 returns c =

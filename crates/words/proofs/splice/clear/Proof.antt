@@ -1,9 +1,9 @@
--- `table::splice::clear` meets its contract: no word stands before the zeros, and none after. Assumes nothing.
+-- `words::splice::clear` meets its contract: no word stands before the zeros, and none after. Assumes nothing.
 use mathlib.Core.Path.{_∙_}
-use Rattle.table.proofs.Moving.{cleared}
+use Rattle.words.proofs.Moving.{cleared}
 use borrow.Author.Needs.{needs}
-use Rattle.table.proofs.splice.clear.Statement.{statement}
-use Rattle.table.proofs.splice.clear.Tie as tie
+use Rattle.words.proofs.splice.clear.Statement.{statement}
+use Rattle.words.proofs.splice.clear.Tie as tie
 
 zero-requires : tie.Need-zero-requires
 zero-requires c κs = search needs

@@ -7,8 +7,8 @@ use native.Mathlib.Numerals.{add-one}
 use native.Mathlib.Omega.{arith}
 use lib.ListN.{length, take, drop, getD, set, replicate, length-append, take-append-drop, replicate-append-replicate, List·getD-append, length-drop, drop-of-length-le}
 use lib.Seq.{slice, slice-cons, slice-empty, length-slice, length-take-le, take-suc, drop-cons, drop-drop, drop-append-le, drop-append-add, take-at, getD-take, getD-drop, getD-append-add, set-at}
-use Rattle.table.specs.Layout.{pad}
-use Rattle.table.proofs.Pad.{pad-append, pad-zeros, drop-zeros, pad-fits}
+use Rattle.words.specs.Words.{pad}
+use Rattle.words.proofs.Pad.{pad-append, pad-zeros, drop-zeros, pad-fits}
 
 -- ---- going down: d is the list at the start, and the words from the seam up are written
 

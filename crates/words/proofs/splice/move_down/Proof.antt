@@ -1,11 +1,11 @@
--- `table::splice::move_down` meets its contract: the words below k have moved. Assumes nothing.
+-- `words::splice::move_down` meets its contract: the words below k have moved. Assumes nothing.
 use mathlib.Core.Path.{_≡_, refl, ap, _∙_}
 use Prim.Native.Nat.{ℕ, _-_, _≤_}
 use native.Mathlib.Omega.{arith}
 use lib.ListN.{length, length-set}
-use Rattle.table.proofs.Moving.{moved-down, down-turn, down-none}
-use Rattle.table.proofs.splice.move_down.Statement.{statement}
-use Rattle.table.proofs.splice.move_down.Tie as tie
+use Rattle.words.proofs.Moving.{moved-down, down-turn, down-none}
+use Rattle.words.proofs.splice.move_down.Statement.{statement}
+use Rattle.words.proofs.splice.move_down.Tie as tie
 
 abbrev Inv-loop : tie.InvT-loop
 Inv-loop t₀ from end by k₀ t k = (from ≤ k) × (k ≤ end) × (length t ≡ length t₀) × (t ≡ moved-down t₀ from k by)

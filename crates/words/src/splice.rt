@@ -1,10 +1,10 @@
-// Words of a table written by the run: its tail moved in place, to open or close a gap before it, and zeros.
+// Words written by the run: its tail moved in place, to open or close a gap before it, and zeros.
 ghost use mathlib.Core.Path.{_≡_};
 ghost use mathlib.Core.List.{_++_};
 ghost use Prim.Native.Nat.{_+_, _-_, _≤_};
 ghost use lib.ListN.{length, take, drop, replicate};
 ghost use lib.Seq.{slice};
-ghost use Rattle.table.specs.Layout.{pad};
+ghost use Rattle.words.specs.Words.{pad};
 
 // Moves the words [from, end) so that they start at `to`; the words below `to` stay. All words after them are zero, before and after.
 pub fn move_tail(t: &mut [u64], from: usize, to: usize, end: usize)

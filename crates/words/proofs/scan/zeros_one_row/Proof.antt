@@ -1,11 +1,11 @@
--- `table::scan::zeros_one_row` meets its contract. Assumes nothing.
+-- `words::scan::zeros_one_row` meets its contract. Assumes nothing.
 use Prim.Native.Nat.{_-_, _≤_}
 use mathlib.Core.Path.{refl}
 use native.Mathlib.Omega.{arith}
 use lib.ListN.{length}
-use Rattle.table.proofs.Zeros.{Row, row-start, row-or, one-row}
-use Rattle.table.proofs.scan.zeros_one_row.Statement.{statement}
-use Rattle.table.proofs.scan.zeros_one_row.Tie as tie
+use Rattle.words.proofs.Zeros.{Row, row-start, row-or, one-row}
+use Rattle.words.proofs.scan.zeros_one_row.Statement.{statement}
+use Rattle.words.proofs.scan.zeros_one_row.Tie as tie
 
 abbrev Inv-loop : tie.InvT-loop
 Inv-loop t from row₀ i₀ row i = (from ≤ i) × Row t from 0 i row
