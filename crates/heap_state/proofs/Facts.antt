@@ -12,6 +12,34 @@ use Rattle.ledger.specs.Ledger.{recordsb, ascendingb}
 use Rattle.heap_state.specs.declared.Heap.{Heap}
 use Rattle.heap_state.specs.Sound.{lengthsb, orderb, rangesb, headsb, listsb, allBlocks, placedb, disjointb, countersb, soundb}
 
+pub record Lengths (arena ledger : ℕ) : Type 0 where
+  pub arena-low : 2 ≤ arena
+  pub arena-high : arena ≤ 1048576
+  pub ledger-low : 1 ≤ ledger
+  pub ledger-high : ledger ≤ 65535
+
+pub lengths-fact : (arena ledger : ℕ) → lengthsb arena ledger ≡ true → Lengths arena ledger
+lengths-fact arena ledger e =
+    let l3 = both _ _ e in
+    let l2 = both _ _ (l3 .0) in
+    let l1 = both _ _ (l2 .0) in
+    record {
+      arena-low = leb-true 2 arena (l1 .0);
+      arena-high = leb-true arena 1048576 (l1 .1);
+      ledger-low = leb-true 1 ledger (l2 .1);
+      ledger-high = leb-true ledger 65535 (l3 .1);
+    }
+
+pub lengths-true : (arena ledger : ℕ) → Lengths arena ledger → lengthsb arena ledger ≡ true
+lengths-true arena ledger l =
+    rw (le-leb 2 arena (l .arena-low), le-leb arena 1048576 (l .arena-high), le-leb 1 ledger (l .ledger-low), le-leb ledger 65535 (l .ledger-high))
+
+pub order-fact : (order : ℕ) → orderb order ≡ true → (4 ≤ order) × (order ≤ 33)
+order-fact order e = let o = both _ _ e in (leb-true 4 order (o .0), leb-true order 33 (o .1))
+
+pub order-true : (order : ℕ) → 4 ≤ order → order ≤ 33 → orderb order ≡ true
+order-true order low high = rw (le-leb 4 order low, le-leb order 33 high)
+
 -- lengths, ORDER and count as numbers
 pub record Ranges (h : Heap) (arena ledger : List ℕ) : Type 0 where
   pub arena-low : 2 ≤ length arena
@@ -27,17 +55,15 @@ unfolding rangesb
 ranges-fact h arena ledger e =
     let p = both _ _ e in
     let q = both _ _ (p .0) in
-    let l3 = both _ _ (q .0) in
-    let l2 = both _ _ (l3 .0) in
-    let l1 = both _ _ (l2 .0) in
-    let o = both _ _ (q .1) in
+    let l = lengths-fact (length arena) (length ledger) (q .0) in
+    let o = order-fact (h .order) (q .1) in
     record {
-      arena-low = leb-true 2 (length arena) (l1 .0);
-      arena-high = leb-true (length arena) 1048576 (l1 .1);
-      ledger-low = leb-true 1 (length ledger) (l2 .1);
-      ledger-high = leb-true (length ledger) 65535 (l3 .1);
-      order-low = leb-true 4 (h .order) (o .0);
-      order-high = leb-true (h .order) 33 (o .1);
+      arena-low = l .arena-low;
+      arena-high = l .arena-high;
+      ledger-low = l .ledger-low;
+      ledger-high = l .ledger-high;
+      order-low = o .0;
+      order-high = o .1;
       room = leb-true (h .count) (length ledger) (p .1);
     }
 

@@ -1,3 +1,5 @@
 pub mod Facts
 pub mod Heads
 pub mod Counters
+pub mod Clearing
+pub mod Made

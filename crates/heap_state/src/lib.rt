@@ -1,4 +1,7 @@
 // The heap over an arena: its record, when it is sound, and its making.
+mod making;
+mod ranges;
+
 use answers::Answer;
 
 // ORDER, the heads of the 33 lists of free blocks, the number of ledger records, and three counts of bytes.
