@@ -1,5 +1,5 @@
 -- The head of a list of a sound heap is the address of a block of its class, in its place. Assumes nothing.
-use mathlib.Core.Path.{_≡_, refl, ap, _∙_}
+use mathlib.Core.Path.{_≡_, refl, sym, ap, _∙_}
 use mathlib.Core.Bool.{Bool, true, false, _&&_, _||_}
 use mathlib.Core.List.{List, [], _∷_, _++_, map}
 use Prim.Native.Nat.{ℕ, zero, suc, _+_, _*_, _%_, _^_, _≤_, _<_}
@@ -7,16 +7,15 @@ use native.Mathlib.Nat.{not-suc-le-zero}
 use native.Mathlib.Omega.{arith}
 use lib.Dec.{leb, ltb, eqb}
 use lib.ListN.{length, getD}
-use borrow.Author.Tests.{leb-true, ltb-true, eqb-true}
-use Rattle.words.proofs.Tests.{both, join}
+use borrow.Author.Tests.{leb-true, ltb-true, eqb-true, le-leb, lt-ltb, eq-eqb}
+use Rattle.words.proofs.Tests.{both}
+use Rattle.heap_state.proofs.Joined.{and-assoc}
 use Rattle.linked_list.specs.Links.{next, nodes}
 use Rattle.heap_state.specs.declared.Heap.{Heap}
 use Rattle.heap_state.specs.Lists.{Memory, list}
 use Rattle.heap_state.specs.Sound.{Block, blk, headsb, freeFrom, freeBlocks, grantedBlocks, placedb}
+use Rattle.heap_state.specs.Parts.{blockb}
 use Rattle.heap_state.proofs.Facts.{Sound}
-
-abbrev pub onePlacedb : ℕ → ℕ → ℕ → Bool
-onePlacedb bytes k a = eqb (a % 2 ^ k) 0 && ltb 0 a && leb (a + 2 ^ k) bytes
 
 -- a block of class k at a in its place, of an arena of so many bytes
 pub record Placed (bytes k a : ℕ) : Type 0 where
@@ -24,19 +23,35 @@ pub record Placed (bytes k a : ℕ) : Type 0 where
   pub above : 0 < a
   pub inside : a + 2 ^ k ≤ bytes
 
+pub block-fact : (bytes k a : ℕ) → blockb bytes k a ≡ true → Placed bytes k a
+unfolding blockb
+block-fact bytes k a e =
+    let q = both _ _ e in
+    let r = both _ _ (q .0) in
+    record { aligned = eqb-true (a % 2 ^ k) 0 (r .0); above = ltb-true 0 a (r .1); inside = leb-true (a + 2 ^ k) bytes (q .1) }
+
+pub block-true : (bytes k a : ℕ) → Placed bytes k a → blockb bytes k a ≡ true
+unfolding blockb
+block-true bytes k a p = rw (eq-eqb (a % 2 ^ k) 0 (p .aligned), lt-ltb 0 a (p .above), le-leb (a + 2 ^ k) bytes (p .inside))
+
+pub placed-cons : (bytes k a : ℕ) (bs : List Block) → placedb bytes (blk k a ∷ bs) ≡ blockb bytes k a && placedb bytes bs
+unfolding blockb
+placed-cons bytes k a bs = refl
+
 pub placed-fact : (bytes k a : ℕ) (bs : List Block) → placedb bytes (blk k a ∷ bs) ≡ true → Placed bytes k a × (placedb bytes bs ≡ true)
 placed-fact bytes k a bs e =
-    let p = both _ _ e in
-    let q = both _ _ (p .0) in
-    let r = both _ _ (q .0) in
-    (record { aligned = eqb-true (a % 2 ^ k) 0 (r .0); above = ltb-true 0 a (r .1); inside = leb-true (a + 2 ^ k) bytes (q .1) }, p .1)
+    let p = both (blockb bytes k a) (placedb bytes bs) (sym (placed-cons bytes k a bs) ∙ e) in
+    (block-fact bytes k a (p .0), p .1)
 
-pub placed-append : (bytes : ℕ) (xs ys : List Block) → placedb bytes (xs ++ ys) ≡ true → (placedb bytes xs ≡ true) × (placedb bytes ys ≡ true)
-placed-append bytes [] ys e = (refl, e)
-placed-append bytes (blk k a ∷ xs) ys e =
-    let p = both (onePlacedb bytes k a) (placedb bytes (xs ++ ys)) e in
-    let rest = placed-append bytes xs ys (p .1) in
-    (join (onePlacedb bytes k a) (placedb bytes xs) (p .0) (rest .0), rest .1)
+pub placed-append : (bytes : ℕ) (xs ys : List Block) → placedb bytes (xs ++ ys) ≡ placedb bytes xs && placedb bytes ys
+placed-append bytes [] ys = refl
+placed-append bytes (blk k a ∷ xs) ys =
+    placed-cons bytes k a (xs ++ ys) ∙ ap (λ (t : Bool). blockb bytes k a && t) (placed-append bytes xs ys)
+    ∙ sym (and-assoc (blockb bytes k a) (placedb bytes xs) (placedb bytes ys))
+    ∙ ap (λ (t : Bool). t && placedb bytes ys) (sym (placed-cons bytes k a xs))
+
+pub placed-parts : (bytes : ℕ) (xs ys : List Block) → placedb bytes (xs ++ ys) ≡ true → (placedb bytes xs ≡ true) × (placedb bytes ys ≡ true)
+placed-parts bytes xs ys e = both (placedb bytes xs) (placedb bytes ys) (sym (placed-append bytes xs ys) ∙ e)
 
 -- the class of a list that has a node
 either : (b c : Bool) → b || c ≡ true → (c ≡ true → ⊥) → b ≡ true
@@ -59,10 +74,10 @@ pub free-placed : (bytes n j k : ℕ) (m : Memory) → placedb bytes (freeFrom n
 free-placed bytes zero j k m e h = absurd (not-suc-le-zero h)
 free-placed bytes (suc n) j zero m e h =
     let z : j + 0 ≡ j = omega arith in
-    rw z (placed-append bytes (map (blk j) (list j m)) (freeFrom n (suc j) m) e .0)
+    rw z (placed-parts bytes (map (blk j) (list j m)) (freeFrom n (suc j) m) e .0)
 free-placed bytes (suc n) j (suc k) m e h =
     let z : j + suc k ≡ suc j + k = omega arith in
-    rw z (free-placed bytes n (suc j) k m (placed-append bytes (map (blk j) (list j m)) (freeFrom n (suc j) m) e .1) (omega arith))
+    rw z (free-placed bytes n (suc j) k m (placed-parts bytes (map (blk j) (list j m)) (freeFrom n (suc j) m) e .1) (omega arith))
 
 first-placed : (bytes k most : ℕ) (arena : List ℕ) (a : ℕ) → placedb bytes (map (blk k) (nodes most arena a)) ≡ true → 0 < most → (a ≡ 0 → ⊥) → Placed bytes k a
 unfolding nodes
@@ -82,7 +97,7 @@ head-placed h arena ledger k s q =
     let c = heads-at (h .order) 0 (h .heads) k (s .heads) q in
     let r = s .ranges in
     let z : 0 + k ≡ k = omega arith in
-    let free = placed-append (length arena * 8) (freeBlocks h arena) (grantedBlocks h ledger) (s .placed) .0 in
+    let free = placed-parts (length arena * 8) (freeBlocks h arena) (grantedBlocks h ledger) (s .placed) .0 in
     let mine = free-placed (length arena * 8) 33 0 k (record { heads = h .heads; arena = arena }) free (omega arith) in
     let p = first-placed (length arena * 8) k (length arena) arena (getD (h .heads) k 0) (rw z at mine) (omega arith) q in
     record { class-low = omega (arith, c .0); class-high = omega (arith, c .1); aligned = p .aligned; above = p .above; inside = p .inside }

@@ -1,4 +1,5 @@
 // The heap over an arena: its record, when it is sound, and its making.
+mod free;
 mod making;
 mod ranges;
 
@@ -18,4 +19,17 @@ pub struct Heap {
 pub struct Reply {
     pub answer: Answer,
     pub heap: Heap,
+}
+
+// What a test of free blocks found: whether all is well, and then their bytes.
+pub(crate) struct Tally {
+    pub ok: bool,
+    pub bytes: u64,
+}
+
+// What a test of ledger records found: whether all is well, and then the sums of requested bytes and of block sizes.
+pub(crate) struct Sums {
+    pub ok: bool,
+    pub user: u64,
+    pub allocated: u64,
 }

@@ -1,0 +1,153 @@
+-- `heap_state::free::walk` meets its contract: the nodes left are tested as the whole list is, and their bytes are what is left to add.
+-- Assumes nothing.
+use mathlib.Core.Path.{_≡_, refl, sym, ap, _∙_}
+use mathlib.Core.Bool.{false≢true}
+use Prim.Native.Nat.{ℕ, suc, _+_, _*_, _-_, _^_}
+use native.Mathlib.Omega.{arith}
+use lib.ListN.{length}
+use borrow.Author.Tests.{not-true, not-false}
+use Rattle.linked_list.specs.Links.{next}
+use Rattle.heap_state.specs.Sound.{bytesOf}
+use Rattle.heap_state.specs.Parts.{listBlocks, listb}
+use Rattle.heap_state.proofs.Joined.{shifted}
+use Rattle.heap_state.proofs.Walks.{blocks-end, blocks-step, list-end, list-out, list-step, walk-fits}
+use borrow.Author.Needs.{needs}
+use Rattle.heap_state.proofs.free.walk.Statement.{statement}
+use Rattle.heap_state.proofs.free.walk.Tie as tie
+use Rattle.heap_state.proofs.free.walk.Reads as reads
+use Rattle.heap_state.proofs.free.walk.Lts as lts
+use Rattle.heap_state.proofs.free.placed.Reads as placed-reads
+use Rattle.linked_list.proofs.next.Reads as next-reads
+
+abbrev Inv-loop : tie.InvT-loop
+Inv-loop class head arena size end left₀ node₀ bytes₀ left node bytes =
+    (listb (length arena * 8) class left arena node ≡ listb (length arena * 8) class (length arena - 1) arena head)
+    × (bytes + bytesOf (listBlocks class (suc left) arena node) ≡ bytesOf (listBlocks class (length arena) arena head))
+
+abbrev μ-loop : tie.MeasureT-loop
+μ-loop class head arena size end left₀ node₀ bytes₀ left node bytes = left
+
+-- src/free.rt:33:16
+shl-size : tie.Need-shl-size Inv-loop μ-loop
+shl-size c = search needs
+
+-- src/free.rt:34:15
+mul-end : tie.Need-mul-end Inv-loop μ-loop
+mul-end c = search needs
+
+-- src/free.rt:35:20
+sub-left : tie.Need-sub-left Inv-loop μ-loop
+sub-left c = search needs
+
+-- src/free.rt:38:5
+loop-holds : tie.Need-loop-holds Inv-loop μ-loop
+loop-holds c =
+    let s = c .before in
+    let a = s .args in
+    let e : suc (length (a .arena .now) - 1) ≡ length (a .arena .now) = omega arith in
+    (refl, omega (arith, ap (λ (n : ℕ). bytesOf (listBlocks (a .class) n (a .arena .now) (a .head))) e))
+
+-- src/free.rt:40:13
+returns : tie.Need-returns Inv-loop μ-loop
+returns c =
+    let l = c .before .before .loop in
+    let a = c .before .before .before .before .args in
+    record {
+      ok-is = sym (list-out (length (a .arena .now) * 8) (a .class) (l .left) (a .arena .now) (l .node) (c .if1 .taken) (c .before .loop-test .taken)) ∙ l .inv .0;
+      bytes-are = λ e. absurd (false≢true e);
+    }
+
+-- src/free.rt:45:13
+placed-requires : tie.Need-placed-requires Inv-loop μ-loop
+placed-requires c κs = search needs
+
+-- src/free.rt:46:13
+returns-2 : tie.Need-returns-2 Inv-loop μ-loop
+returns-2 c =
+    let p = c .before in
+    let l = p .before .before .before .loop in
+    let a = p .before .before .before .before .before .args in
+    let n = length (a .arena .now) * 8 in
+    let bad = sym (p .placed .ensures) ∙ not-true _ (c .if2 .taken) in
+    record {
+      ok-is =
+          sym (list-step n (a .class) (l .left) (a .arena .now) (l .node) (l .left - 1) (omega arith) (p .before .before .loop-test .taken) ∙ rw bad) ∙ l .inv .0;
+      bytes-are = λ e. absurd (false≢true e);
+    }
+
+-- src/free.rt:51:9
+add-bytes : tie.Need-add-bytes Inv-loop μ-loop
+add-bytes c =
+    let l = c .before .before .before .before .loop in
+    let s = c .before .before .before .before .before .before in
+    let a = s .args in
+    omega (
+      arith,
+      shifted (a .class) (omega arith),
+      walk-fits (a .class) (length (a .arena .now)) (a .arena .now) (a .head) (l .bytes) (l .left) (l .node) (s .pre .0) (s .pre .2) (c .before .before .before .loop-test .taken) (l .inv .1),
+    )
+
+-- src/free.rt:52:9
+sub-left-2 : tie.Need-sub-left-2 Inv-loop μ-loop
+sub-left-2 c = search needs
+
+-- src/free.rt:53:9
+next-requires : tie.Need-next-requires Inv-loop μ-loop
+next-requires c κs = search needs
+
+-- src/free.rt:38:5
+loop-less : tie.Need-loop-less Inv-loop μ-loop
+loop-less c = search needs
+
+-- src/free.rt:38:5
+loop-again : tie.Need-loop-again Inv-loop μ-loop
+loop-again c =
+    let p = c .before .before in
+    let t = p .before .before in
+    let l = t .before .loop in
+    let s = t .before .before .before in
+    let a = s .args in
+    let m = a .arena .now in
+    let good = sym (p .placed .ensures) ∙ not-false _ (c .before .if2 .left) in
+    let step = list-step (length m * 8) (a .class) (l .left) m (l .node) (l .left - 1) (omega arith) (t .loop-test .taken) in
+    let whole = blocks-step (a .class) (suc (l .left)) (l .left) m (l .node) refl (t .loop-test .taken) in
+    let one : l .left ≡ suc (l .left - 1) = omega arith in
+    rw (c .next .ensures) (
+      rw good at (sym step) ∙ l .inv .0,
+      omega (
+        arith,
+        shifted (a .class) (omega arith),
+        ap bytesOf whole,
+        ap (λ (n : ℕ). bytesOf (listBlocks (a .class) n m (next m (l .node)))) one,
+      ),
+    )
+
+-- src/free.rt:29:1
+returns-3 : tie.Need-returns-3 Inv-loop μ-loop
+returns-3 c =
+    let l = c .before .loop in
+    let a = c .before .before .before .args in
+    record {
+      ok-is = sym (list-end (length (a .arena .now) * 8) (a .class) (l .left) (a .arena .now) (l .node) (c .loop-test .left)) ∙ l .inv .0;
+      bytes-are = λ e. omega (arith, ap bytesOf (blocks-end (a .class) (suc (l .left)) (a .arena .now) (l .node) (c .loop-test .left)));
+    }
+
+pub walk-spec : {M : Type 1} → statement M
+walk-spec =
+    tie.close
+    (tie.spec
+    Inv-loop
+    μ-loop
+    shl-size
+    mul-end
+    sub-left
+    loop-holds
+    returns
+    placed-requires
+    returns-2
+    add-bytes
+    sub-left-2
+    next-requires
+    loop-less
+    loop-again
+    returns-3)
