@@ -5,3 +5,4 @@ pub mod Counters
 pub mod Clearing
 pub mod Made
 pub mod Walks
+pub mod Classes

@@ -4,8 +4,8 @@ ghost use Prim.Native.Nat.{_-_, _*_, _≤_, _<_};
 ghost use lib.ListN.{length};
 ghost use Rattle.heap_state.specs.Sound.{bytesOf};
 ghost use Rattle.heap_state.specs.Parts.{blockb, listBlocks, listb, classb, freeUp, freeb, Tallied};
-use linked_list::next;
 use super::Tally;
+use linked_list::next;
 
 // A block of the class is aligned, above address 0, and ends within so many bytes. By a mask, since a division by a variable is slow.
 pub(crate) fn placed(class: u64, address: u64, bytes: u64) -> bool
@@ -64,10 +64,7 @@ fn class_list(order: u64, class: u64, head: u64, arena: &[u64]) -> Tally
     ensures { λ r. ⌜ Tallied (classb order class (now (arena .entry)) head) (bytesOf (listBlocks class (length (now (arena .entry))) (now (arena .entry)) head)) r ⌝ }
 {
     if head == 0 {
-        return Tally {
-            ok: true,
-            bytes: 0,
-        };
+        return Tally { ok: true, bytes: 0 };
     }
     if class < 3 {
         return Tally {
@@ -85,7 +82,7 @@ fn class_list(order: u64, class: u64, head: u64, arena: &[u64]) -> Tally
 }
 
 pub(crate) fn free_lists(order: u64, heads: &[u64; 33], arena: &[u64]) -> Tally
-    requires { ⌜ (order ≤ 33) × (2 ≤ length (now arena)) × (length (now arena) ≤ 1048576) ⌝ }
+    requires { ⌜ (length (now heads) ≡ 33) × (order ≤ 33) × (2 ≤ length (now arena)) × (length (now arena) ≤ 1048576) ⌝ }
     ensures { λ r. ⌜ Tallied (freeb order 0 (now (heads .entry)) (now (arena .entry))) (bytesOf (freeUp 0 (now (heads .entry)) (now (arena .entry)))) r ⌝ }
 {
     let mut class: usize = 0;

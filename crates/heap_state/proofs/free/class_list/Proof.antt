@@ -1,3 +1,12 @@
+-- `heap_state::free::class_list` meets its contract. Assumes nothing.
+use mathlib.Core.Path.{sym, ap}
+use mathlib.Core.Bool.{false≢true}
+use Prim.Native.Nat.{_+_}
+use native.Mathlib.Omega.{arith}
+use lib.ListN.{length}
+use Rattle.heap_state.specs.Sound.{bytesOf}
+use Rattle.heap_state.proofs.Walks.{blocks-end}
+use Rattle.heap_state.proofs.Classes.{class-empty, class-low, class-high, class-own}
 use borrow.Author.Needs.{needs}
 use Rattle.heap_state.proofs.free.class_list.Statement.{statement}
 use Rattle.heap_state.proofs.free.class_list.Tie as tie
@@ -7,15 +16,24 @@ use Rattle.heap_state.proofs.free.walk.Reads as walk-reads
 
 -- src/free.rt:67:9
 returns : tie.Need-returns
-returns c = search needs
+returns c =
+    let a = c .before .before .args in
+    record {
+      ok-is = sym (class-empty (a .order) (a .class) (a .arena .now) (a .head) (c .if1 .taken));
+      bytes-are = λ e. sym (ap bytesOf (blocks-end (a .class) (length (a .arena .now)) (a .arena .now) (a .head) (c .if1 .taken)));
+    }
 
 -- src/free.rt:73:9
 returns-2 : tie.Need-returns-2
-returns-2 c = search needs
+returns-2 c =
+    let a = c .before .before .before .args in
+    record { ok-is = sym (class-low (a .order) (a .class) (a .arena .now) (a .head) (c .before .if1 .left) (c .if2 .taken)); bytes-are = λ e. absurd (false≢true e) }
 
 -- src/free.rt:79:9
 returns-3 : tie.Need-returns-3
-returns-3 c = search needs
+returns-3 c =
+    let a = c .before .before .before .before .args in
+    record { ok-is = sym (class-high (a .order) (a .class) (a .arena .now) (a .head) (c .before .before .if1 .left) (c .if3 .taken)); bytes-are = λ e. absurd (false≢true e) }
 
 -- src/free.rt:84:5
 walk-requires : tie.Need-walk-requires
@@ -23,7 +41,9 @@ walk-requires c κs = search needs
 
 -- src/free.rt:62:1
 returns-4 : tie.Need-returns-4
-returns-4 c = search needs
+returns-4 c =
+    let a = c .before .before .before .before .before .args in
+    rw (class-own (a .order) (a .class) (a .arena .now) (a .head) (omega arith) (omega arith)) (c .walk .ensures)
 
 pub class-list-spec : {M : Type 1} → statement M
 class-list-spec = tie.close (tie.spec returns returns-2 returns-3 walk-requires returns-4)

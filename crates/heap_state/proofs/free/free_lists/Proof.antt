@@ -1,3 +1,14 @@
+-- `heap_state::free::free_lists` meets its contract: the classes left are tested as all are, and their bytes are what is left to add.
+-- Assumes nothing.
+use mathlib.Core.Path.{_≡_, refl, sym, ap, _∙_}
+use mathlib.Core.Bool.{Bool, false≢true, _&&_}
+use Prim.Native.Nat.{ℕ, _+_, _-_, _≤_}
+use native.Mathlib.Omega.{arith}
+use lib.ListN.{length, getD}
+use borrow.Author.Tests.{not-true, not-false}
+use Rattle.heap_state.specs.Sound.{bytesOf}
+use Rattle.heap_state.specs.Parts.{freeUp, freeb}
+use Rattle.heap_state.proofs.Classes.{free-step, free-end, sum-step, sum-end, sum-small}
 use borrow.Author.Needs.{needs}
 use Rattle.heap_state.proofs.free.free_lists.Statement.{statement}
 use Rattle.heap_state.proofs.free.free_lists.Tie as tie
@@ -6,14 +17,15 @@ use Rattle.heap_state.proofs.free.free_lists.Lts as lts
 use Rattle.heap_state.proofs.free.class_list.Reads as class-list-reads
 
 abbrev Inv-loop : tie.InvT-loop
-Inv-loop order heads arena class₀ bytes₀ class bytes = ?
+Inv-loop order heads arena class₀ bytes₀ class bytes =
+    (freeb order class heads arena ≡ freeb order 0 heads arena) × (bytes + bytesOf (freeUp class heads arena) ≡ bytesOf (freeUp 0 heads arena))
 
 abbrev μ-loop : tie.MeasureT-loop
-μ-loop order heads arena class₀ bytes₀ class bytes = ?
+μ-loop order heads arena class₀ bytes₀ class bytes = 33 - class
 
 -- src/free.rt:93:5
 loop-holds : tie.Need-loop-holds Inv-loop μ-loop
-loop-holds c = search needs
+loop-holds c = (refl, omega arith)
 
 -- src/free.rt:94:52
 mul-class-list : tie.Need-mul-class-list Inv-loop μ-loop
@@ -29,11 +41,26 @@ class-list-requires c κs = search needs
 
 -- src/free.rt:96:13
 returns : tie.Need-returns Inv-loop μ-loop
-returns c = search needs
+returns c =
+    let v = c .before .before in
+    let l = v .before .before .before .loop in
+    let s = v .before .before .before .before .before in
+    let a = s .args in
+    let bad = sym (v .class-list .ensures .ok-is) ∙ not-true _ (c .if1 .taken) in
+    record {
+      ok-is = sym (free-step (a .order) (a .heads .now) (a .arena .now) (l .class) (omega arith) (s .pre .0) (omega arith) ∙ rw bad) ∙ l .inv .0;
+      bytes-are = λ e. absurd (false≢true e);
+    }
 
 -- src/free.rt:101:9
 add-bytes : tie.Need-add-bytes Inv-loop μ-loop
-add-bytes c = search needs
+add-bytes c =
+    let v = c .before .before .before in
+    let l = v .before .before .before .loop in
+    let s = v .before .before .before .before .before in
+    let a = s .args in
+    let good = v .class-list .ensures .bytes-are (not-false _ (c .before .if1 .left)) in
+    omega (arith, good, sum-step (a .order) (a .heads .now) (a .arena .now) (l .class) (omega arith), sum-small (a .order) (a .heads .now) (a .arena .now) (omega arith))
 
 -- src/free.rt:102:9
 add-class : tie.Need-add-class Inv-loop μ-loop
@@ -45,11 +72,28 @@ loop-less c = search needs
 
 -- src/free.rt:93:5
 loop-again : tie.Need-loop-again Inv-loop μ-loop
-loop-again c = search needs
+loop-again c =
+    let v = c .before .before .before in
+    let l = v .before .before .before .loop in
+    let s = v .before .before .before .before .before in
+    let a = s .args in
+    let ok = not-false _ (c .before .if1 .left) in
+    let good = sym (v .class-list .ensures .ok-is) ∙ ok in
+    let step = free-step (a .order) (a .heads .now) (a .arena .now) (l .class) (omega arith) (s .pre .0) (omega arith) in (
+      rw good at (sym step) ∙ l .inv .0,
+      omega (arith, v .class-list .ensures .bytes-are ok, sum-step (a .order) (a .heads .now) (a .arena .now) (l .class) (omega arith)),
+    )
 
 -- src/free.rt:87:1
 returns-2 : tie.Need-returns-2 Inv-loop μ-loop
-returns-2 c = search needs
+returns-2 c =
+    let l = c .before .loop in
+    let s = c .before .before .before in
+    let a = s .args in
+    record {
+      ok-is = sym (free-end (a .order) (a .heads .now) (a .arena .now) (l .class) (omega arith) (s .pre .0)) ∙ l .inv .0;
+      bytes-are = λ e. omega (arith, sum-end (a .order) (a .heads .now) (a .arena .now) (l .class) (omega arith));
+    }
 
 pub free-lists-spec : {M : Type 1} → statement M
 free-lists-spec =
