@@ -5,12 +5,16 @@ use mathlib.Core.List.{List, [], _∷_, _++_, map}
 use Prim.Native.Nat.{ℕ, zero, suc, _+_, _-_, _^_, _≤_, _<_}
 use native.Mathlib.Omega.{arith}
 use lib.Dec.{ltb}
+use lib.ListN.{length, getD}
+use lib.Seq.{slice, slice-cons}
 use borrow.Author.Tests.{lt-ltb, le-ltb, ltb-true}
 use Rattle.words.proofs.Tests.{same}
+use Rattle.words.proofs.Parts.{slice-past}
 use Rattle.linked_list.specs.Links.{next, nodes}
 use Rattle.linked_list.proofs.Steps.{nodes-end, nodes-none, nodes-step}
+use Rattle.ledger.specs.Ledger.{classOf, addressOf, grantOf}
 use Rattle.heap_state.specs.Lists.{Memory, list}
-use Rattle.heap_state.specs.Sound.{Block, blk, freeFrom}
+use Rattle.heap_state.specs.Sound.{Block, blk, blockOf, freeFrom}
 use Rattle.heap_core.specs.Deciding.{meets}
 use Rattle.heap_core.specs.Moves.{meetsBlock}
 
@@ -89,3 +93,27 @@ module _ (s e k : ℕ) (m : Memory) where
 
   pub free-miss : (t : Bool) → k < 33 → t ≡ meets s e (map (blk k) (list k m)) → t ≡ false → from (k + 1) ≡ from k
   free-miss t h told e = sym (class-step h ∙ rw (← told, e))
+
+-- ---- the ledger: the records from i up to, not including, count
+
+module _ (s e : ℕ) (some : s < e) (count : ℕ) (ledger : List ℕ) where
+  abbrev granted : ℕ → Bool
+  granted i = meets s e (map blockOf (map grantOf (slice i count ledger)))
+
+  pub granted-none : (i : ℕ) → count ≤ i → false ≡ granted i
+  granted-none i h = rw (slice-past i count ledger h)
+
+  module _ (i : ℕ) (more : i < count) (room : count ≤ length ledger) (t : Bool) (class address size : ℕ) (class-is : class ≡ classOf (getD ledger i 0))
+      (address-is : address ≡ addressOf (getD ledger i 0)) (is : size ≡ 2 ^ class) (told : t ≡ meetsBlock address size s e) where
+    record-step : granted i ≡ t || granted (i + 1)
+    record-step =
+        let one : i + 1 ≡ suc i = omega arith in
+        ap (λ (ws : List ℕ). meets s e (map blockOf (map grantOf ws))) (slice-cons i count ledger 0 more room)
+        ∙ meets-first s e some (classOf (getD ledger i 0)) (addressOf (getD ledger i 0)) (map blockOf (map grantOf (slice (suc i) count ledger)))
+        ∙ rw (one, told, is, class-is, address-is)
+
+    pub granted-hit : t ≡ true → true ≡ granted i
+    granted-hit q = sym (record-step ∙ rw q)
+
+    pub granted-miss : t ≡ false → granted (i + 1) ≡ granted i
+    granted-miss q = sym (record-step ∙ rw q)

@@ -1,15 +1,22 @@
 -- Forms of the promises of the parts in src/: heads and arena as one memory.
 use mathlib.Core.Path.{_≡_}
 use mathlib.Core.Bool.{Bool, _&&_}
-use mathlib.Core.List.{List}
+use mathlib.Core.List.{List, [], _∷_}
 use Prim.Native.Nat.{ℕ, _+_, _-_, _^_, _≤_, _<_}
 use lib.Dec.{ltb}
 use lib.ListN.{length}
 use Rattle.answers.specs.declared.Answer.{Answer}
-use Rattle.answers.specs.declared.Answer.the-variants.{Done}
+use Rattle.answers.specs.declared.Answer.the-variants.{Done, Refused}
+use Rattle.answers.specs.declared.Refusal.{Refusal}
+use Rattle.answers.specs.declared.Refusal.the-variants.{Overlap}
+use Rattle.heap_state.specs.declared.Heap.{Heap}
+use Rattle.heap_state.specs.declared.Reply.{Reply}
 use Rattle.linked_list.specs.declared.Previous.{Previous}
 use Rattle.linked_list.specs.Links.{removed}
-use Rattle.heap_state.specs.Lists.{Memory, head, withList, pop, splitDown, Released}
+use Rattle.heap_state.specs.Lists.{Memory, head, withList, pop, pushAll, splitDown, Released}
+use Rattle.heap_state.specs.Sound.{allBlocks}
+use Rattle.heap_state.specs.State.{State}
+use Rattle.heap_core.specs.Deciding.{Decision, done, refuse, judge, meets, memory, top, withLists}
 
 abbrev pub mem : List ℕ → List ℕ → Memory
 mem heads arena = record { heads = heads; arena = arena }
@@ -37,3 +44,13 @@ released compared m = record { memory = m; nodes-compared = compared }
 -- a block of `size` bytes at the address has a byte in [start, end), which is not empty
 abbrev pub meetsBlock : ℕ → ℕ → ℕ → ℕ → Bool
 meetsBlock address size start end = ltb address end && ltb start (address + size)
+
+-- the reply of a refused call
+abbrev pub refusedWith : Heap → Refusal → Reply
+refusedWith h refusal = record { answer = Refused refusal; heap = h }
+
+-- what is decided of the bytes [from, to), whole words and not none, once they are known to be inside the arena and above address 0
+unfoldable pub addingWords : ℕ → ℕ → State → Decision
+addingWords from to st =
+    judge (refuse (meets from to (allBlocks (st .heap) (st .arena) (st .ledger))) Overlap ∷ [])
+    (done 0 (withLists st (pushAll (to - from) (top st) from (to - from) (memory st)) (st .heap .total + (to - from))))

@@ -1,14 +1,22 @@
 // Adding a range of bytes: whether a part of it is there already, and its blocks pushed.
 ghost use mathlib.Core.Path.{_≡_};
+ghost use mathlib.Core.Bool.{true};
 ghost use mathlib.Core.List.{map};
-ghost use Prim.Native.Nat.{_+_, _-_, _^_, _≤_, _<_};
+ghost use Prim.Native.Nat.{_+_, _-_, _*_, _^_, _≤_, _<_};
 ghost use lib.ListN.{length, getD};
 ghost use Rattle.linked_list.specs.Links.{nodes};
 ghost use Rattle.heap_state.specs.Lists.{pushAll};
-ghost use Rattle.heap_state.specs.Sound.{blk, freeFrom};
-ghost use Rattle.heap_core.specs.Deciding.{meets};
-ghost use Rattle.heap_core.specs.Moves.{mem, meetsBlock};
+ghost use Rattle.ledger.specs.Ledger.{grants};
+ghost use Rattle.heap_state.specs.Sound.{blk, blockOf, freeFrom, soundb};
+ghost use Rattle.heap_state.specs.State.{state, Says};
+ghost use Rattle.heap_core.specs.Deciding.{meets, adding, carried};
+ghost use Rattle.heap_core.specs.Moves.{mem, meetsBlock, addingWords};
 use super::moves::push;
+use super::refused;
+use answers::Answer;
+use answers::Refusal;
+use heap_state::Heap;
+use heap_state::Reply;
 
 // Whether a block of this size at the address has a byte in [start, end).
 fn block_meets(address: u64, size: u64, start: u64, end: u64) -> bool
@@ -60,6 +68,27 @@ fn free_meets(heads: &[u64; 33], arena: &[u64], start: u64, end: u64) -> bool
     false
 }
 
+// Whether a granted block has a byte in [start, end), which is not empty.
+fn granted_meets(ledger: &[u64], count: u64, start: u64, end: u64) -> bool
+    requires { ⌜ (count ≤ length (now ledger)) × (start < end) ⌝ }
+    ensures { λ r. ⌜ r ≡ meets start end (map blockOf (grants count (now (ledger .entry)))) ⌝ }
+{
+    let mut i: u64 = 0;
+    while i < count {
+        let w = ledger[i as usize];
+        if block_meets(
+            ledger::address_of(w),
+            1u64 << ledger::class_of(w),
+            start,
+            end,
+        ) {
+            return true;
+        }
+        i += 1;
+    }
+    false
+}
+
 // The n bytes from start on are cut into blocks up to class `top`, and each is pushed.
 fn push_pieces(heads: &mut [u64; 33], arena: &mut [u64], top: u64, start: u64, n: u64)
     requires { ⌜ (top < 33) × (start + n < 2 ^ 64) ⌝ }
@@ -72,5 +101,55 @@ fn push_pieces(heads: &mut [u64; 33], arena: &mut [u64], top: u64, start: u64, n
         push(heads, arena, blocks::class_of(size), from);
         from += size;
         left -= size;
+    }
+}
+
+// The bytes [start, end), rounded to words, are added to a sound heap.
+pub fn add_range(h: Heap, arena: &mut [u64], ledger: &[u64], start: u64, end: u64) -> Reply
+    requires { ⌜ soundb h (now arena) (now ledger) ≡ true ⌝ }
+    ensures { λ r. ⌜ Says (carried (state h (now (arena .entry)) (now (ledger .entry))) (adding start end (state h (now (arena .entry)) (now (ledger .entry))))) r (now (arena .exit)) (now (ledger .entry)) ⌝ }
+{
+    let bytes = arena.len() as u64 * 8;
+    if bytes < start {
+        return refused(h, Refusal::BadRange);
+    }
+    if bytes < end {
+        return refused(h, Refusal::BadRange);
+    }
+    let from = (start + 7) / 8 * 8;
+    let to = end / 8 * 8;
+    if to < from {
+        return refused(h, Refusal::BadRange);
+    }
+    // an empty range is accepted anywhere, inside a block too
+    if from == to {
+        return Reply {
+            answer: Answer::Done(0),
+            heap: h,
+        };
+    }
+    if from == 0 {
+        return refused(h, Refusal::NullStart);
+    }
+    add_words(h, arena, ledger, from, to)
+}
+
+// The bytes [from, to), whole words and not none, are added if none of them is there already.
+fn add_words(h: Heap, arena: &mut [u64], ledger: &[u64], from: u64, to: u64) -> Reply
+    requires { ⌜ (soundb h (now arena) (now ledger) ≡ true) × (from < to) × (to ≤ length (now arena) * 8) ⌝ }
+    ensures { λ r. ⌜ Says (carried (state h (now (arena .entry)) (now (ledger .entry))) (addingWords from to (state h (now (arena .entry)) (now (ledger .entry))))) r (now (arena .exit)) (now (ledger .entry)) ⌝ }
+{
+    if free_meets(&h.heads, arena, from, to) {
+        return refused(h, Refusal::Overlap);
+    }
+    if granted_meets(ledger, h.count, from, to) {
+        return refused(h, Refusal::Overlap);
+    }
+    let mut g = h;
+    push_pieces(&mut g.heads, arena, h.order - 1, from, to - from);
+    g.total = h.total + (to - from);
+    Reply {
+        answer: Answer::Done(0),
+        heap: g,
     }
 }

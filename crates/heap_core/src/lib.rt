@@ -2,3 +2,21 @@
 // nothing, are those of the crate `heap`.
 mod add;
 mod moves;
+
+ghost use mathlib.Core.Path.{_≡_};
+ghost use Rattle.heap_core.specs.Moves.{refusedWith};
+pub use add::add_range;
+use answers::Answer;
+use answers::Refusal;
+use heap_state::Heap;
+use heap_state::Reply;
+
+// The reply of a refused call: the record is as it was.
+pub(crate) fn refused(h: Heap, refusal: Refusal) -> Reply
+    ensures { λ r. ⌜ r ≡ refusedWith h refusal ⌝ }
+{
+    Reply {
+        answer: Answer::Refused(refusal),
+        heap: h,
+    }
+}

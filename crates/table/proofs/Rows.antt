@@ -18,7 +18,8 @@ use Rattle.table.specs.Scan.{below33, maskOf, Lap, cleanb, nextEnd, endA
 use Rattle.words.proofs.Tests.{no, clash, both, join, same, and-false}
 use Rattle.table.proofs.Facts.{Fine, record-true, record-fact, size-pos}
 use Rattle.words.proofs.Ors.{or-le, or-zero}
-use Rattle.table.proofs.Words.{slice-past, or-gap, or-class}
+use Rattle.words.proofs.Parts.{slice-past}
+use Rattle.table.proofs.Words.{or-gap, or-class}
 
 -- ---- one record after a block that ends at floor
 

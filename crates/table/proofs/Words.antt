@@ -1,17 +1,11 @@
--- Parts of a list by index, words or-ed together, and a bit by a shift. Assumes nothing.
+-- Words or-ed together, and a bit by a shift. Assumes nothing.
 use mathlib.Core.Path.{_≡_, _∙_}
-use mathlib.Core.List.{List, []}
-use Prim.Native.Nat.{ℕ, _*_, _/_, _%_, _^_, _≤_, _<_}
+use Prim.Native.Nat.{ℕ, _*_, _/_, _%_, _^_, _<_}
 use native.Mathlib.Nat.{one-mul}
 use native.Mathlib.Omega.{arith}
-use lib.ListN.{take, length-take, drop-of-length-le}
-use lib.Seq.{slice}
 use lib.Pow.{shl-exact}
 use lib.Bits.{bitOr, or-shr, or-mod}
 use Rattle.table.specs.Layout.{classOf, gapOf}
-
-pub slice-past : (i e : ℕ) (ws : List ℕ) → e ≤ i → slice i e ws ≡ []
-slice-past i e ws h = drop-of-length-le (take e ws) {i = i} (simp length-take (omega arith))
 
 -- `1 << k`, of 32 or 64 bits
 pub bit : (k width : ℕ) → k < width → 1 * 2 ^ k % 2 ^ width ≡ 2 ^ k

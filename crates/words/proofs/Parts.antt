@@ -1,8 +1,13 @@
--- Parts of a list: of a mapped one, and of one whose words are below a bound. Assumes nothing.
+-- Parts of a list: one past its end, of a mapped list, and of one whose words are below a bound. Assumes nothing.
 use mathlib.Core.Path.{_≡_, refl, ap}
 use mathlib.Core.List.{List, [], _∷_, map}
-use Prim.Native.Nat.{ℕ, zero, suc, _<_}
-use lib.ListN.{take, drop, getD}
+use Prim.Native.Nat.{ℕ, zero, suc, _≤_, _<_}
+use native.Mathlib.Omega.{arith}
+use lib.ListN.{take, drop, getD, length-take, drop-of-length-le}
+use lib.Seq.{slice}
+
+pub slice-past : (i e : ℕ) (ws : List ℕ) → e ≤ i → slice i e ws ≡ []
+slice-past i e ws h = drop-of-length-le (take e ws) {i = i} (simp length-take (omega arith))
 
 module _ {A B : Type 0} (f : A → B) where
   pub map-take : (n : ℕ) (xs : List A) → map f (take n xs) ≡ take n (map f xs)

@@ -10,7 +10,7 @@ use borrow.Author.Needs.{needs}
 use borrow.Author.Tests.{not-true, not-false, lt-ltb}
 use Rattle.table.specs.Sound.{recordsb, apartb}
 use Rattle.table.specs.Scan.{below33, endAfter}
-use Rattle.table.proofs.Words.{slice-past}
+use Rattle.words.proofs.Parts.{slice-past}
 use Rattle.table.proofs.Facts.{record-fact, size-pos}
 use Rattle.table.proofs.Rows.{end-wrong, end-le, parts, from-first, first-wrong}
 use Rattle.table.proofs.scan.records_ok.Statement.{statement}

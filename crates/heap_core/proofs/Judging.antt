@@ -1,0 +1,26 @@
+-- Replies held to what was decided: a refused call's, a done one's, and checks that fail. Assumes nothing.
+use mathlib.Core.Path.{_≡_, refl, sym, ap, subst}
+use mathlib.Core.Bool.{Bool, true, false}
+use mathlib.Core.List.{List, _∷_}
+use Prim.Native.Nat.{ℕ}
+use Rattle.answers.specs.declared.Answer.the-variants.{Done}
+use Rattle.answers.specs.declared.Refusal.{Refusal}
+use Rattle.heap_state.specs.declared.Heap.{Heap}
+use Rattle.heap_state.specs.declared.Reply.{Reply}
+use Rattle.heap_state.specs.State.{State, state, Says}
+use Rattle.heap_core.specs.Deciding.{Decision, refused, done, Check, refuse, judge, carried}
+use Rattle.heap_core.specs.Moves.{refusedWith}
+
+pub judged-yes : (t : Bool) (r : Refusal) (cs : List Check) (d : Decision) → t ≡ true → judge (refuse t r ∷ cs) d ≡ refused r
+judged-yes t r cs d e = rw e
+
+pub judged-no : (t : Bool) (r : Refusal) (cs : List Check) (d : Decision) → t ≡ false → judge (refuse t r ∷ cs) d ≡ judge cs d
+judged-no t r cs d e = rw e
+
+pub says-refused : (h : Heap) (arena ledger : List ℕ) (r : Refusal) (reply : Reply) (d : Decision) → d ≡ refused r → reply ≡ refusedWith h r
+    → Says (carried (state h arena ledger) d) reply arena ledger
+says-refused h arena ledger r reply d e f = rw (e, f) (record { number-is = refl; value-is = refl; state-is = refl })
+
+pub says-done : (before after : State) (h : Heap) (arena ledger : List ℕ) (value : ℕ) (d : Decision) → d ≡ done value after → state h arena ledger ≡ after
+    → Says (carried before d) (record { answer = Done value; heap = h }) arena ledger
+says-done before after h arena ledger value d e f = rw e (record { number-is = refl; value-is = refl; state-is = f })
