@@ -1,0 +1,4 @@
+pub mod Grants
+pub mod Searching
+pub mod Ledgers
+pub mod Keeping
