@@ -15,9 +15,9 @@ use Rattle.words.proofs.Tests.{clash}
 use Rattle.ledger.specs.declared.Found.the-variants.{At}
 use Rattle.ledger.specs.Ledger.{Grant, grant, address, enter, strike, same, some, wordOf, grants, ledgerWords}
 use Rattle.ledger.specs.Kept.{Kept, search, below, standsAt}
-use Rattle.ledger.proofs.Grants.{Records, none, next, Fine}
+use Rattle.ledger.proofs.Grants.{Records, none, next, Fine, records-fit}
 use Rattle.ledger.proofs.Searching.{strike-at, search-within}
-use Rattle.ledger.proofs.Ledgers.{length-grants, place-le, kept-records, words-kept, replaced}
+use Rattle.ledger.proofs.Ledgers.{length-grants, place-le, kept-records, grants-words, words-kept, replaced}
 
 -- ---- entered
 
@@ -77,25 +77,41 @@ length-strike {gs = gs} r k n a i e =
     let l : length (take i gs) ≡ i = length-take-le i gs (omega arith) in
     rw (strike-at k n a r i e, length-append, length-drop) (omega arith)
 
--- ---- the ledger stays in order
+-- ---- the ledger stays in order, and says the new list
 
 module _ (order count : ℕ) (t : List ℕ) (kept : Kept order count t) where
-  pub kept-enter : (k n a : ℕ) → Fine order k n → a < 2 ^ 24 → count < length t → some (standsAt a) (grants count t) ≡ false
-      → Kept order (count + 1) (ledgerWords (length t) (enter (grant k n a) (grants count t)))
-  kept-enter k n a f h l e =
-      let gs : List Grant = grants count t in
-      let c : length (enter (grant k n a) gs) ≡ count + 1 = length-enter (grant k n a) gs ∙ omega (arith, length-grants order count t kept) in
-      rw c at
-      (words-kept (length t) (enter (grant k n a) gs) (omega arith) (kept .short) (records-enter k n a f h (omega arith) (kept-records order count t kept) e))
+  module _ (k n a : ℕ) (fine : Fine order k n) (low : a < 2 ^ 24) (room : count < length t) (fresh : some (standsAt a) (grants count t) ≡ false) where
+    count-enter : length (enter (grant k n a) (grants count t)) ≡ count + 1
+    count-enter = length-enter (grant k n a) (grants count t) ∙ omega (arith, length-grants order count t kept)
 
-  pub kept-strike : (k n a i : ℕ) → search (same k n a) (grants count t) ≡ At i
-      → Kept order (count - 1) (ledgerWords (length t) (strike (same k n a) (grants count t)))
-  kept-strike k n a i e =
-      let gs : List Grant = grants count t in
-      let r = kept-records order count t kept in
-      let c : length (strike (same k n a) gs) ≡ count - 1 = omega (arith, length-strike r k n a i e, length-grants order count t kept) in
-      rw c at
-      (words-kept (length t) (strike (same k n a) gs) (omega (arith, kept .room)) (kept .short) (records-strike (same k n a) r))
+    all-enter : Records order 0 (enter (grant k n a) (grants count t))
+    all-enter = records-enter k n a fine low (omega arith) (kept-records order count t kept) fresh
+
+    pub kept-enter : Kept order (count + 1) (ledgerWords (length t) (enter (grant k n a) (grants count t)))
+    kept-enter =
+        rw count-enter at (words-kept (length t) (enter (grant k n a) (grants count t)) (omega (arith, count-enter)) (kept .short) all-enter)
+
+    pub grants-enter : grants (count + 1) (ledgerWords (length t) (enter (grant k n a) (grants count t))) ≡ enter (grant k n a) (grants count t)
+    grants-enter =
+        ap (λ (c : ℕ). grants c (ledgerWords (length t) (enter (grant k n a) (grants count t)))) (sym count-enter)
+        ∙ grants-words (length t) (enter (grant k n a) (grants count t)) (omega (arith, count-enter)) (records-fit all-enter)
+
+  module _ (k n a i : ℕ) (there : search (same k n a) (grants count t) ≡ At i) where
+    count-strike : length (strike (same k n a) (grants count t)) ≡ count - 1
+    count-strike = omega (arith, length-strike (kept-records order count t kept) k n a i there, length-grants order count t kept)
+
+    all-strike : Records order 0 (strike (same k n a) (grants count t))
+    all-strike = records-strike (same k n a) (kept-records order count t kept)
+
+    pub kept-strike : Kept order (count - 1) (ledgerWords (length t) (strike (same k n a) (grants count t)))
+    kept-strike =
+        rw count-strike at
+        (words-kept (length t) (strike (same k n a) (grants count t)) (omega (arith, count-strike, kept .room)) (kept .short) all-strike)
+
+    pub grants-strike : grants (count - 1) (ledgerWords (length t) (strike (same k n a) (grants count t))) ≡ strike (same k n a) (grants count t)
+    grants-strike =
+        ap (λ (c : ℕ). grants c (ledgerWords (length t) (strike (same k n a) (grants count t)))) (sym count-strike)
+        ∙ grants-words (length t) (strike (same k n a) (grants count t)) (omega (arith, count-strike, kept .room)) (records-fit all-strike)
 
   -- ---- the words, as the functions of src/records.rt leave them
 

@@ -1,8 +1,8 @@
 -- A ledger in order and its granted blocks: each determines the other, and the words of a run of records replaced. Assumes nothing.
-use mathlib.Core.Path.{_≡_, refl, sym, ap, _∙_}
+use mathlib.Core.Path.{_≡_, sym, ap, _∙_}
 use mathlib.Core.Bool.{true, false}
-use mathlib.Core.List.{List, [], _∷_, _++_, map, map-append}
-use Prim.Native.Nat.{ℕ, suc, _+_, _-_, _^_, _≤_, _<_}
+use mathlib.Core.List.{List, _++_, map, map-append}
+use Prim.Native.Nat.{ℕ, _+_, _-_, _≤_, _<_}
 use native.Mathlib.Omega.{arith}
 use lib.ListN.{length, take, drop, getD, replicate, take-append-drop, length-drop, length-map, List·getD-map}
 use lib.Seq.{length-take-le, take-at, drop-at, getD-take}
@@ -14,7 +14,7 @@ use Rattle.words.proofs.Zeros.{zeros-are, zeros-made}
 use Rattle.ledger.specs.declared.Found.the-variants.{At, Nowhere}
 use Rattle.ledger.specs.Ledger.{Grant, address, addressOf, grantOf, wordOf, same, grants, ledgerWords}
 use Rattle.ledger.specs.Kept.{Kept, below, search}
-use Rattle.ledger.proofs.Grants.{Records, Fitting, records-of, records-fit, words-of, grants-of, words-made}
+use Rattle.ledger.proofs.Grants.{Records, Fitting, records-of, words-of, grants-of, words-made}
 use Rattle.ledger.proofs.Searching.{grantAt, ascends, below-le, below-is, search-no, search-here}
 
 -- ---- what a ledger in order says

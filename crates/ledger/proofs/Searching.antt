@@ -7,7 +7,7 @@ use native.Mathlib.Omega.{arith}
 use lib.Dec.{eqb, ltb}
 use lib.ListN.{length, take, drop, getD}
 use borrow.Author.Tests.{ltb-true, ltb-false, lt-ltb, le-ltb, eqb-true}
-use Rattle.words.proofs.Tests.{no, both, clash}
+use Rattle.words.proofs.Tests.{no, both}
 use Rattle.ledger.specs.declared.Found.{Found}
 use Rattle.ledger.specs.declared.Found.the-variants.{At, Nowhere}
 use Rattle.ledger.specs.Ledger.{Grant, grant, address, same, some, strike}
