@@ -125,3 +125,11 @@ taken from class k m₀ heads arena t out h e =
       answer = ap Done (p .block ∙ ap (head class) r);
       memory = pop-is heads arena class (t .head) (p .link) ∙ ap (pop class) r;
     }
+
+-- the block that comes out is the one that was halved
+pub halved-head : (n class : ℕ) (m : Memory) → class + n < length (m .heads) → head class (splitDown n class m) ≡ head (class + n) m
+unfolding splitDown
+halved-head zero class m h = let e : class + 0 ≡ class = omega arith in rw e
+halved-head (suc n) class m h =
+    let e : class + suc n ≡ suc (class + n) = omega arith in
+    halved-head n class (split (class + n) m) (omega (arith, length-split (class + n) m)) ∙ split-head (class + n) m (omega arith) ∙ ap (λ (j : ℕ). head j m) (sym e)

@@ -5,3 +5,5 @@ pub mod Judging
 pub mod Overlaps
 pub mod Pushing
 pub mod Adding
+pub mod Requests
+pub mod Granting

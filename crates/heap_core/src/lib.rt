@@ -1,13 +1,16 @@
 // What the calls on a heap do once the heap was found sound: specs/Deciding.antt says what each decides. The calls for everybody, which ask
 // nothing, are those of the crate `heap`.
 mod add;
+mod grant;
 mod moves;
+mod request;
 
 ghost use mathlib.Core.Path.{_≡_};
 ghost use Rattle.heap_core.specs.Moves.{refusedWith};
 pub use add::add_range;
 use answers::Answer;
 use answers::Refusal;
+pub use grant::grant_bytes;
 use heap_state::Heap;
 use heap_state::Reply;
 
