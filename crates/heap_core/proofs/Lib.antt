@@ -7,3 +7,4 @@ pub mod Pushing
 pub mod Adding
 pub mod Requests
 pub mod Granting
+pub mod Releasing

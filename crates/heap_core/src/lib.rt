@@ -3,6 +3,7 @@
 mod add;
 mod grant;
 mod moves;
+mod release;
 mod request;
 
 ghost use mathlib.Core.Path.{_≡_};
@@ -13,6 +14,8 @@ use answers::Refusal;
 pub use grant::grant_bytes;
 use heap_state::Heap;
 use heap_state::Reply;
+pub use release::release_bytes;
+pub use release::zero_bytes;
 
 // The reply of a refused call: the record is as it was.
 pub(crate) fn refused(h: Heap, refusal: Refusal) -> Reply

@@ -114,7 +114,7 @@ search-some p (g ∷ gs) = go (p g) refl (search-some p gs)
     go false e rec = rw (e, some, search) (rec ∙ sym (is-later (search p gs)))
 
 -- a search that found something in the rest of a list
-later-at : (s : Found) (i : ℕ) → later s ≡ At i → (j : ℕ) × (s ≡ At j) × (i ≡ suc j)
+pub later-at : (s : Found) (i : ℕ) → later s ≡ At i → (j : ℕ) × (s ≡ At j) × (i ≡ suc j)
 later-at (At j) i e = (j, refl, cc)
 later-at Nowhere i e = let z : _≡_ {A = ℕ} 0 1 = cc in absurd (omega arith)
 
