@@ -6,12 +6,12 @@ use Prim.Native.Nat.{ℕ, zero, suc, _≤_, _<_}
 use native.Mathlib.Omega.{arith}
 use lib.Dec.{eqb, ltb}
 use lib.ListN.{length, take, drop, getD}
-use borrow.Author.Tests.{ltb-true, ltb-false, lt-ltb, le-ltb, eqb-true}
+use borrow.Author.Tests.{ltb-true, ltb-false, lt-ltb, le-ltb, eqb-true, ne-eqb}
 use Rattle.words.proofs.Tests.{no, both}
 use Rattle.ledger.specs.declared.Found.{Found}
 use Rattle.ledger.specs.declared.Found.the-variants.{At, Nowhere}
 use Rattle.ledger.specs.Ledger.{Grant, grant, address, same, some, strike}
-use Rattle.ledger.specs.Kept.{later, search, isAt, below}
+use Rattle.ledger.specs.Kept.{later, search, isAt, standsAt, below}
 use Rattle.ledger.proofs.Grants.{Records, none, next}
 
 -- the granted block at a place
@@ -112,6 +112,11 @@ search-some p (g ∷ gs) = go (p g) refl (search-some p gs)
     go : (t : Bool) → p g ≡ t → some p gs ≡ isAt (search p gs) → some p (g ∷ gs) ≡ isAt (search p (g ∷ gs))
     go true e rec = rw (e, some, search)
     go false e rec = rw (e, some, search) (rec ∙ sym (is-later (search p gs)))
+
+-- an address at which none stands
+pub none-stands : (a : ℕ) (gs : List Grant) → ((i : ℕ) → i < length gs → address (grantAt i gs) ≡ a → ⊥) → some (standsAt a) gs ≡ false
+none-stands a [] h = refl
+none-stands a (grant j m b ∷ gs) h = rw (ne-eqb b a (h 0 (omega arith)), some) (none-stands a gs (λ i l. h (suc i) (omega arith)))
 
 -- a search that found something in the rest of a list
 pub later-at : (s : Found) (i : ℕ) → later s ≡ At i → (j : ℕ) × (s ≡ At j) × (i ≡ suc j)
