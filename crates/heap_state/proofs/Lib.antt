@@ -6,3 +6,4 @@ pub mod Clearing
 pub mod Made
 pub mod Walks
 pub mod Classes
+pub mod Records

@@ -6,7 +6,7 @@ use Prim.Native.Nat.{ℕ, zero, suc, _+_, _-_, _*_, _%_, _^_}
 use lib.Dec.{leb, ltb, eqb}
 use lib.ListN.{length, take, drop}
 use Rattle.linked_list.specs.Links.{nodes}
-use Rattle.ledger.specs.Ledger.{grantOf, classOf, addressOf, recordsb}
+use Rattle.ledger.specs.Ledger.{grantOf, classOf, addressOf, recordb, recordsb}
 use Rattle.heap_state.specs.declared.Tally.{Tally}
 use Rattle.heap_state.specs.declared.Sums.{Sums}
 use Rattle.heap_state.specs.Sound.{Block, blk, blockOf, headsb, reaches, listsb, freeFrom, placedb, apart, apartFrom, bytesOf, requests}
@@ -49,6 +49,10 @@ blocksOf ws = map blockOf (map grantOf ws)
 unfoldable pub endsb : ℕ → List ℕ → Bool
 endsb floor [] = true
 endsb floor (w ∷ ws) = leb floor (addressOf w) && endsb (addressOf w + 2 ^ classOf w) ws
+
+-- a record after one whose block ends at `floor`
+unfoldable pub nextb : ℕ → ℕ → ℕ → ℕ → Bool
+nextb order bytes floor w = recordb order w && leb floor (addressOf w) && blockb bytes (classOf w) (addressOf w)
 
 unfoldable pub grantedb : ℕ → ℕ → ℕ → List ℕ → Bool
 grantedb order bytes floor ws = recordsb order ws && endsb floor ws && placedb bytes (blocksOf ws)

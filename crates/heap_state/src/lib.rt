@@ -1,5 +1,6 @@
 // The heap over an arena: its record, when it is sound, and its making.
 mod free;
+mod granted;
 mod making;
 mod ranges;
 
