@@ -7,3 +7,4 @@ pub mod Made
 pub mod Walks
 pub mod Classes
 pub mod Records
+pub mod Crossing

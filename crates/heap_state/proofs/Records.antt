@@ -62,10 +62,10 @@ granted-cons order bytes floor w ws =
     ∙ and-swap (r && l) (rs && es) b ps
 
 module _ (order bytes : ℕ) (ledger : List ℕ) (count : ℕ) (room : count ≤ length ledger) where
-  rest : (i : ℕ) → i < count → slice i count ledger ≡ getD ledger i 0 ∷ slice (i + 1) count ledger
+  pub rest : (i : ℕ) → i < count → slice i count ledger ≡ getD ledger i 0 ∷ slice (i + 1) count ledger
   rest i h = slice-cons i count ledger 0 h room ∙ ap (λ (j : ℕ). getD ledger i 0 ∷ slice j count ledger) (sym (add-one i))
 
-  none : (i : ℕ) → count ≤ i → slice i count ledger ≡ []
+  pub none : (i : ℕ) → count ≤ i → slice i count ledger ≡ []
   none i h = drop-of-length-le (take count ledger) {i = i} (simp length-take (omega arith))
 
   pub granted-step : (floor i : ℕ) → i < count →

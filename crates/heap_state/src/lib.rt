@@ -2,6 +2,7 @@
 mod free;
 mod granted;
 mod making;
+mod pairs;
 mod ranges;
 
 use answers::Answer;

@@ -1,0 +1,78 @@
+// Whether blocks are disjoint: each free block is compared in pairs with every block after it, free or granted. (Granted blocks stand in
+// the order of their addresses, so among themselves each is compared with the one before it, when the records are read.)
+ghost use mathlib.Core.Path.{_≡_};
+ghost use mathlib.Core.Bool.{_||_};
+ghost use mathlib.Core.List.{_++_};
+ghost use Prim.Native.Nat.{_+_, _≤_, _<_};
+ghost use lib.Dec.{leb};
+ghost use lib.ListN.{length, take, getD};
+ghost use Rattle.heap_state.specs.Sound.{blk, apartFrom};
+ghost use Rattle.heap_state.specs.Parts.{listBlocks, freeUp, blocksOf, crossb};
+use ledger::address_of;
+use ledger::class_of;
+use linked_list::next;
+
+// Two blocks have no byte in common; by differences, which fit where sums may not.
+fn apart(a: u64, size: u64, b: u64, other: u64) -> bool
+    requires { ⌜ (0 < size) × (0 < other) ⌝ }
+    ensures { λ r. ⌜ r ≡ leb (a + size) b || leb (b + other) a ⌝ }
+{
+    if a <= b {
+        return size <= b - a;
+    }
+    other <= a - b
+}
+
+// A block and the blocks of a list from a node on, at most so many.
+fn apart_from_list(class: u64, address: u64, other: u64, head: u64, arena: &[u64], most: usize) -> bool
+    requires { ⌜ (class < 64) × (other < 64) ⌝ }
+    ensures { λ r. ⌜ r ≡ apartFrom (blk class address) (listBlocks other most (now (arena .entry)) head) ⌝ }
+{
+    let size = 1u64 << class;
+    let bytes = 1u64 << other;
+    let mut node = head;
+    let mut left = most;
+    while node != 0 {
+        if left == 0 {
+            return true;
+        }
+        if !apart(address, size, node, bytes) {
+            return false;
+        }
+        left -= 1;
+        node = next(arena, node);
+    }
+    true
+}
+
+// A block and the lists of the classes from `from` on.
+fn apart_from_lists(class: u64, address: u64, from: usize, heads: &[u64; 33], arena: &[u64]) -> bool
+    requires { ⌜ class < 64 ⌝ }
+    ensures { λ r. ⌜ r ≡ apartFrom (blk class address) (freeUp from (now (heads .entry)) (now (arena .entry))) ⌝ }
+{
+    let mut other = from;
+    while other < 33 {
+        if !apart_from_list(class, address, other as u64, heads[other], arena, arena.len()) {
+            return false;
+        }
+        other += 1;
+    }
+    true
+}
+
+// A block and the granted ones.
+fn apart_from_records(class: u64, address: u64, ledger: &[u64], count: usize) -> bool
+    requires { ⌜ (class < 64) × (count ≤ length (now ledger)) ⌝ }
+    ensures { λ r. ⌜ r ≡ apartFrom (blk class address) (blocksOf (take count (now (ledger .entry)))) ⌝ }
+{
+    let size = 1u64 << class;
+    let mut i: usize = 0;
+    while i < count {
+        let w = ledger[i];
+        if !apart(address, size, address_of(w), 1u64 << class_of(w)) {
+            return false;
+        }
+        i += 1;
+    }
+    true
+}
