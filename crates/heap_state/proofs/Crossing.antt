@@ -84,3 +84,32 @@ unfolding crossb
 disjoint-append [] ys = refl
 disjoint-append (x ∷ xs) ys =
     ap (λ (t : Bool). apartFrom x (xs ++ ys) && t) (disjoint-append xs ys) ∙ sym (and-assoc (apartFrom x (xs ++ ys)) (crossb xs ys) (disjointb ys))
+
+module _ (k left : ℕ) (arena : List ℕ) (node : ℕ) (later : List Block) where
+  pub cross-end : node ≡ 0 → crossb (listBlocks k left arena node) later ≡ true
+  unfolding crossb
+  cross-end e = rw (blocks-end k left arena node e)
+
+  pub cross-out : left ≡ 0 → crossb (listBlocks k left arena node) later ≡ true
+  unfolding crossb
+  cross-out e = rw (nodes-none left arena node (omega arith))
+
+  pub cross-step : (less : ℕ) → left ≡ suc less → (node ≡ 0 → ⊥) →
+      crossb (listBlocks k left arena node) later ≡ apartFrom (blk k node) (listBlocks k less arena (next arena node) ++ later) && crossb (listBlocks k less arena (next arena node)) later
+  unfolding crossb
+  cross-step less e q = rw (blocks-step k left less arena node e q)
+
+module _ (heads arena : List ℕ) (later : List Block) where
+  pub classes-step : (k : ℕ) → k < 33 →
+      crossb (freeUp k heads arena) later ≡ crossb (listBlocks k (length arena) arena (getD heads k 0)) (freeUp (k + 1) heads arena ++ later) && crossb (freeUp (k + 1) heads arena) later
+  classes-step k h =
+      ap (λ (bs : List Block). crossb bs later) (up-step 0 heads arena k h)
+      ∙ cross-append (listBlocks k (length arena) arena (getD heads k 0)) (freeUp (k + 1) heads arena) later
+
+  pub classes-end : (k : ℕ) → 33 ≤ k → crossb (freeUp k heads arena) later ≡ true
+  unfolding crossb
+  classes-end k h = let e : 33 - k ≡ 0 = omega arith in rw e
+
+-- a block apart from three lists one after the other
+pub from-three : (b : Block) (xs ys zs : List Block) → apartFrom b (xs ++ (ys ++ zs)) ≡ apartFrom b xs && (apartFrom b ys && apartFrom b zs)
+from-three b xs ys zs = from-append b xs (ys ++ zs) ∙ ap (λ (t : Bool). apartFrom b xs && t) (from-append b ys zs)

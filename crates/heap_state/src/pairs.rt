@@ -76,3 +76,53 @@ fn apart_from_records(class: u64, address: u64, ledger: &[u64], count: usize) ->
     }
     true
 }
+
+// A node of a list and every block after it: the nodes after it, the lists of higher classes, and the granted blocks.
+fn node_apart(class: usize, node: u64, after: u64, left: usize, heads: &[u64; 33], arena: &[u64], ledger: &[u64], count: usize) -> bool
+    requires { ⌜ (class < 33) × (count ≤ length (now ledger)) ⌝ }
+    ensures { λ r. ⌜ r ≡ apartFrom (blk class node) (listBlocks class left (now (arena .entry)) after ++ (freeUp (class + 1) (now (heads .entry)) (now (arena .entry)) ++ blocksOf (take count (now (ledger .entry))))) ⌝ }
+{
+    if !apart_from_list(class as u64, node, class as u64, after, arena, left) {
+        return false;
+    }
+    if !apart_from_lists(class as u64, node, class + 1, heads, arena) {
+        return false;
+    }
+    apart_from_records(class as u64, node, ledger, count)
+}
+
+// Each node of a class's list and every block after it.
+fn class_apart(class: usize, heads: &[u64; 33], arena: &[u64], ledger: &[u64], count: usize) -> bool
+    requires { ⌜ (class < 33) × (count ≤ length (now ledger)) ⌝ }
+    ensures { λ r. ⌜ r ≡ crossb (listBlocks class (length (now (arena .entry))) (now (arena .entry)) (getD (now (heads .entry)) class 0)) (freeUp (class + 1) (now (heads .entry)) (now (arena .entry)) ++ blocksOf (take count (now (ledger .entry)))) ⌝ }
+{
+    let mut left = arena.len();
+    let mut node = heads[class];
+    while node != 0 {
+        if left == 0 {
+            return true;
+        }
+        left -= 1;
+        let after = next(arena, node);
+        if !node_apart(class, node, after, left, heads, arena, ledger, count) {
+            return false;
+        }
+        node = after;
+    }
+    true
+}
+
+// Each free block and every block after it.
+pub(crate) fn free_apart(heads: &[u64; 33], arena: &[u64], ledger: &[u64], count: usize) -> bool
+    requires { ⌜ count ≤ length (now ledger) ⌝ }
+    ensures { λ r. ⌜ r ≡ crossb (freeUp 0 (now (heads .entry)) (now (arena .entry))) (blocksOf (take count (now (ledger .entry)))) ⌝ }
+{
+    let mut class: usize = 0;
+    while class < 33 {
+        if !class_apart(class, heads, arena, ledger, count) {
+            return false;
+        }
+        class += 1;
+    }
+    true
+}

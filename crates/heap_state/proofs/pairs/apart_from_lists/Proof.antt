@@ -1,3 +1,11 @@
+-- `heap_state::pairs::apart_from_lists` meets its contract: the classes left are compared as all are. Assumes nothing.
+use mathlib.Core.Path.{_≡_, refl, sym, ap, _∙_}
+use Prim.Native.Nat.{ℕ, _+_, _-_}
+use native.Mathlib.Omega.{arith}
+use borrow.Author.Tests.{not-true, not-false}
+use Rattle.heap_state.specs.Sound.{blk, apartFrom}
+use Rattle.heap_state.specs.Parts.{freeUp}
+use Rattle.heap_state.proofs.Crossing.{lists-step, lists-end}
 use borrow.Author.Needs.{needs}
 use Rattle.heap_state.proofs.pairs.apart_from_lists.Statement.{statement}
 use Rattle.heap_state.proofs.pairs.apart_from_lists.Tie as tie
@@ -6,14 +14,14 @@ use Rattle.heap_state.proofs.pairs.apart_from_lists.Lts as lts
 use Rattle.heap_state.proofs.pairs.apart_from_list.Reads as apart-from-list-reads
 
 abbrev Inv-loop : tie.InvT-loop
-Inv-loop class address from heads arena other₀ other = ?
+Inv-loop class address from heads arena other₀ other = apartFrom (blk class address) (freeUp other heads arena) ≡ apartFrom (blk class address) (freeUp from heads arena)
 
 abbrev μ-loop : tie.MeasureT-loop
-μ-loop class address from heads arena other₀ other = ?
+μ-loop class address from heads arena other₀ other = 33 - other
 
 -- src/pairs.rt:54:5
 loop-holds : tie.Need-loop-holds Inv-loop μ-loop
-loop-holds c = search needs
+loop-holds c = refl
 
 -- src/pairs.rt:55:59
 mul-apart-from-list : tie.Need-mul-apart-from-list Inv-loop μ-loop
@@ -29,7 +37,13 @@ apart-from-list-requires c κs = search needs
 
 -- src/pairs.rt:56:13
 returns : tie.Need-returns Inv-loop μ-loop
-returns c = search needs
+returns c =
+    let p = c .before in
+    let l = p .before .before .before in
+    let a = l .before .before .args in
+    let step = lists-step (blk (a .class) (a .address)) (a .heads .now) (a .arena .now) (l .loop .other) (omega arith) in
+    let bad = sym (p .apart-from-list .ensures) ∙ not-true _ (c .if1 .taken) in
+    sym (step ∙ rw bad) ∙ l .loop .inv
 
 -- src/pairs.rt:58:9
 add-other : tie.Need-add-other Inv-loop μ-loop
@@ -41,11 +55,20 @@ loop-less c = search needs
 
 -- src/pairs.rt:54:5
 loop-again : tie.Need-loop-again Inv-loop μ-loop
-loop-again c = search needs
+loop-again c =
+    let p = c .before in
+    let l = p .before .before .before in
+    let a = l .before .before .args in
+    let step = lists-step (blk (a .class) (a .address)) (a .heads .now) (a .arena .now) (l .loop .other) (omega arith) in
+    let good = sym (p .apart-from-list .ensures) ∙ not-false _ (c .if1 .left) in
+    rw good at (sym step) ∙ l .loop .inv
 
 -- src/pairs.rt:49:1
 returns-2 : tie.Need-returns-2 Inv-loop μ-loop
-returns-2 c = search needs
+returns-2 c =
+    let l = c .before in
+    let a = l .before .before .args in
+    sym (lists-end (blk (a .class) (a .address)) (a .heads .now) (a .arena .now) (l .loop .other) (omega arith)) ∙ l .loop .inv
 
 pub apart-from-lists-spec : {M : Type 1} → statement M
 apart-from-lists-spec =

@@ -1,0 +1,74 @@
+-- `heap_state::pairs::node_apart` meets its contract. Assumes nothing.
+use mathlib.Core.Path.{_≡_, sym, ap, _∙_}
+use mathlib.Core.Bool.{Bool, false, _&&_}
+use Prim.Native.Nat.{_+_}
+use lib.ListN.{take}
+use borrow.Author.Tests.{not-true, not-false}
+use Rattle.words.proofs.Tests.{and-false}
+use Rattle.heap_state.specs.Sound.{blk, apartFrom}
+use Rattle.heap_state.specs.Parts.{listBlocks, freeUp, blocksOf}
+use Rattle.heap_state.proofs.Crossing.{from-three}
+use borrow.Author.Needs.{needs}
+use Rattle.heap_state.proofs.pairs.node_apart.Statement.{statement}
+use Rattle.heap_state.proofs.pairs.node_apart.Tie as tie
+use Rattle.heap_state.proofs.pairs.node_apart.Reads as reads
+use Rattle.heap_state.proofs.pairs.node_apart.Lts as lts
+use Rattle.heap_state.proofs.pairs.apart_from_list.Reads as apart-from-list-reads
+use Rattle.heap_state.proofs.pairs.apart_from_lists.Reads as apart-from-lists-reads
+use Rattle.heap_state.proofs.pairs.apart_from_records.Reads as apart-from-records-reads
+
+-- src/pairs.rt:85:9
+apart-from-list-requires : tie.Need-apart-from-list-requires
+apart-from-list-requires c κs = search needs
+
+-- src/pairs.rt:86:9
+returns : tie.Need-returns
+returns c =
+    let p = c .before in
+    let a = p .before .before .before .args in
+    let bad = sym (p .apart-from-list .ensures) ∙ not-true _ (c .if1 .taken) in
+    sym (from-three (blk (a .class) (a .node)) (listBlocks (a .class) (a .left) (a .arena .now) (a .after)) (freeUp (a .class + 1) (a .heads .now) (a .arena .now)) (blocksOf (take (a .count) (a .ledger .now))) ∙ rw bad)
+
+-- src/pairs.rt:88:46
+add-apart-from-lists : tie.Need-add-apart-from-lists
+add-apart-from-lists c = search needs
+
+-- src/pairs.rt:88:9
+apart-from-lists-requires : tie.Need-apart-from-lists-requires
+apart-from-lists-requires c κs = search needs
+
+-- src/pairs.rt:89:9
+returns-2 : tie.Need-returns-2
+returns-2 c =
+    let q = c .before in
+    let p = q .before .before in
+    let a = p .before .before .before .args in
+    let bad = sym (q .apart-from-lists .ensures) ∙ not-true _ (c .if2 .taken) in
+    let mine = apartFrom (blk (a .class) (a .node)) (listBlocks (a .class) (a .left) (a .arena .now) (a .after)) in
+    sym (from-three (blk (a .class) (a .node)) (listBlocks (a .class) (a .left) (a .arena .now) (a .after)) (freeUp (a .class + 1) (a .heads .now) (a .arena .now)) (blocksOf (take (a .count) (a .ledger .now))) ∙ rw bad (and-false mine))
+
+-- src/pairs.rt:91:5
+apart-from-records-requires : tie.Need-apart-from-records-requires
+apart-from-records-requires c κs = search needs
+
+-- src/pairs.rt:81:1
+returns-3 : tie.Need-returns-3
+returns-3 c =
+    let q = c .before .before in
+    let p = q .before .before in
+    let a = p .before .before .before .args in
+    let one = sym (p .apart-from-list .ensures) ∙ not-false _ (q .before .if1 .left) in
+    let two = sym (q .apart-from-lists .ensures) ∙ not-false _ (c .before .if2 .left) in
+    c .apart-from-records .ensures ∙ sym (from-three (blk (a .class) (a .node)) (listBlocks (a .class) (a .left) (a .arena .now) (a .after)) (freeUp (a .class + 1) (a .heads .now) (a .arena .now)) (blocksOf (take (a .count) (a .ledger .now))) ∙ rw (one, two))
+
+pub node-apart-spec : {M : Type 1} → statement M
+node-apart-spec =
+    tie.close
+    (tie.spec
+    apart-from-list-requires
+    returns
+    add-apart-from-lists
+    apart-from-lists-requires
+    returns-2
+    apart-from-records-requires
+    returns-3)
