@@ -2,9 +2,10 @@ pub mod Facts
 pub mod Joined
 pub mod Heads
 pub mod Counters
-pub mod Clearing
 pub mod Made
 pub mod Walks
 pub mod Classes
 pub mod Records
 pub mod Crossing
+pub mod Ends
+pub mod Together

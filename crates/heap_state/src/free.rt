@@ -4,6 +4,7 @@ ghost use Prim.Native.Nat.{_-_, _*_, _≤_, _<_};
 ghost use lib.ListN.{length};
 ghost use Rattle.heap_state.specs.Sound.{bytesOf};
 ghost use Rattle.heap_state.specs.Parts.{blockb, listBlocks, listb, classb, freeUp, freeb, Tallied};
+use super::Heap;
 use super::Tally;
 use linked_list::next;
 
@@ -31,7 +32,7 @@ fn walk(class: u64, head: u64, arena: &[u64]) -> Tally
     ensures { λ r. ⌜ Tallied (listb (length (now (arena .entry)) * 8) class (length (now (arena .entry)) - 1) (now (arena .entry)) head) (bytesOf (listBlocks class (length (now (arena .entry))) (now (arena .entry)) head)) r ⌝ }
 {
     let size = 1u64 << class;
-    let end = arena.len() as u64 * 8;
+    let end = arena.len() as u64 * Heap::WORD_BYTES;
     let mut left = arena.len() - 1;
     let mut node = head;
     let mut bytes: u64 = 0;

@@ -4,7 +4,9 @@ mod granted;
 mod making;
 mod pairs;
 mod ranges;
+mod soundness;
 
+pub use soundness::sound;
 use answers::Answer;
 
 // ORDER, the heads of the 33 lists of free blocks, the number of ledger records, and three counts of bytes.

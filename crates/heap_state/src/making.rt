@@ -1,7 +1,5 @@
 // Making a heap: a fresh record, and a ledger of zeros.
 ghost use mathlib.Core.Path.{_≡_};
-ghost use lib.ListN.{length, replicate};
-ghost use Rattle.answers.specs.Paper.{numberOf};
 ghost use Rattle.heap_state.specs.State.{Says, making, freshHeap};
 use super::Heap;
 use super::Reply;
@@ -9,12 +7,15 @@ use super::ranges::lengths_ok;
 use super::ranges::order_ok;
 use answers::Answer;
 use answers::Refusal;
+use words::clear;
 
 impl Heap {
+    // ORDER is 4 to 33.
     pub const MIN_ORDER: u64 = 4;
 
     pub const MAX_ORDER: u64 = 33;
 
+    // The bytes of a word of the arena.
     pub const WORD_BYTES: u64 = 8;
 
     pub fn new(order: u64, arena: &[u64], ledger: &mut [u64]) -> Reply
@@ -57,15 +58,5 @@ fn fresh(order: u64) -> Heap
         user: 0,
         allocated: 0,
         total: 0,
-    }
-}
-
-fn clear(t: &mut [u64])
-    ensures { λ _. ⌜ now (t .exit) ≡ replicate (length (now (t .entry))) 0 ⌝ }
-{
-    let mut i: usize = 0;
-    while i < t.len() {
-        t[i] = 0;
-        i += 1;
     }
 }

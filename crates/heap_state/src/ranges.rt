@@ -1,5 +1,7 @@
-// Lengths and ORDER in range.
+// Lengths, ORDER and ledger count in range.
 ghost use mathlib.Core.Path.{_≡_};
+ghost use mathlib.Core.Bool.{_&&_};
+ghost use lib.Dec.{leb};
 ghost use Rattle.heap_state.specs.Sound.{lengthsb, orderb};
 use super::Heap;
 
@@ -31,4 +33,16 @@ pub(crate) fn order_ok(order: u64) -> bool
         return false;
     }
     true
+}
+
+pub(crate) fn ranges_ok(order: u64, count: u64, arena: usize, ledger: usize) -> bool
+    ensures { λ r. ⌜ r ≡ lengthsb arena ledger && orderb order && leb count ledger ⌝ }
+{
+    if !lengths_ok(arena, ledger) {
+        return false;
+    }
+    if !order_ok(order) {
+        return false;
+    }
+    count <= ledger as u64
 }

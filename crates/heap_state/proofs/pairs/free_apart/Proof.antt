@@ -1,3 +1,11 @@
+-- `heap_state::pairs::free_apart` meets its contract: the classes left are compared as all are. Assumes nothing.
+use mathlib.Core.Path.{_≡_, refl, sym, ap, _∙_}
+use Prim.Native.Nat.{ℕ, _+_, _-_}
+use native.Mathlib.Omega.{arith}
+use lib.ListN.{take}
+use borrow.Author.Tests.{not-true, not-false}
+use Rattle.heap_state.specs.Parts.{freeUp, blocksOf, crossb}
+use Rattle.heap_state.proofs.Crossing.{classes-step, classes-end}
 use borrow.Author.Needs.{needs}
 use Rattle.heap_state.proofs.pairs.free_apart.Statement.{statement}
 use Rattle.heap_state.proofs.pairs.free_apart.Tie as tie
@@ -6,14 +14,14 @@ use Rattle.heap_state.proofs.pairs.free_apart.Lts as lts
 use Rattle.heap_state.proofs.pairs.class_apart.Reads as class-apart-reads
 
 abbrev Inv-loop : tie.InvT-loop
-Inv-loop heads arena ledger count class₀ class = ?
+Inv-loop heads arena ledger count class₀ class = crossb (freeUp class heads arena) (blocksOf (take count ledger)) ≡ crossb (freeUp 0 heads arena) (blocksOf (take count ledger))
 
 abbrev μ-loop : tie.MeasureT-loop
-μ-loop heads arena ledger count class₀ class = ?
+μ-loop heads arena ledger count class₀ class = 33 - class
 
 -- src/pairs.rt:121:5
 loop-holds : tie.Need-loop-holds Inv-loop μ-loop
-loop-holds c = search needs
+loop-holds c = refl
 
 -- src/pairs.rt:122:13
 class-apart-requires : tie.Need-class-apart-requires Inv-loop μ-loop
@@ -21,7 +29,13 @@ class-apart-requires c κs = search needs
 
 -- src/pairs.rt:123:13
 returns : tie.Need-returns Inv-loop μ-loop
-returns c = search needs
+returns c =
+    let p = c .before in
+    let l = p .before .before in
+    let a = l .before .before .before .args in
+    let step = classes-step (a .heads .now) (a .arena .now) (blocksOf (take (a .count) (a .ledger .now))) (l .loop .class) (omega arith) in
+    let bad = sym (p .class-apart .ensures) ∙ not-true _ (c .if1 .taken) in
+    sym (step ∙ rw bad) ∙ l .loop .inv
 
 -- src/pairs.rt:125:9
 add-class : tie.Need-add-class Inv-loop μ-loop
@@ -33,11 +47,20 @@ loop-less c = search needs
 
 -- src/pairs.rt:121:5
 loop-again : tie.Need-loop-again Inv-loop μ-loop
-loop-again c = search needs
+loop-again c =
+    let p = c .before in
+    let l = p .before .before in
+    let a = l .before .before .before .args in
+    let step = classes-step (a .heads .now) (a .arena .now) (blocksOf (take (a .count) (a .ledger .now))) (l .loop .class) (omega arith) in
+    let good = sym (p .class-apart .ensures) ∙ not-false _ (c .if1 .left) in
+    rw good at (sym step) ∙ l .loop .inv
 
 -- src/pairs.rt:116:1
 returns-2 : tie.Need-returns-2 Inv-loop μ-loop
-returns-2 c = search needs
+returns-2 c =
+    let l = c .before in
+    let a = l .before .before .before .args in
+    sym (classes-end (a .heads .now) (a .arena .now) (blocksOf (take (a .count) (a .ledger .now))) (l .loop .class) (omega arith)) ∙ l .loop .inv
 
 pub free-apart-spec : {M : Type 1} → statement M
 free-apart-spec =
