@@ -2,7 +2,7 @@
 use mathlib.Core.Path.{_≡_, refl, sym, ap, _∙_}
 use mathlib.Core.Bool.{Bool, true, false, _&&_}
 use mathlib.Core.List.{List, _++_, map}
-use Prim.Native.Nat.{ℕ, _+_, _*_, _≤_}
+use Prim.Native.Nat.{ℕ, _+_, _*_, _^_, _<_}
 use native.Mathlib.Omega.{arith}
 use lib.Dec.{leb, eqb}
 use lib.ListN.{length, take, drop}
@@ -14,7 +14,7 @@ use Rattle.ledger.specs.Ledger.{grantOf, recordsb, ascendingb}
 use Rattle.heap_state.specs.declared.Heap.{Heap}
 use Rattle.heap_state.specs.Sound.{lengthsb, orderb, rangesb, headsb, listsb, placedb, disjointb, bytesOf, requests, countersb, soundb}
 use Rattle.heap_state.specs.Parts.{freeUp, freeb, blocksOf, endsb, grantedb, crossb}
-use Rattle.heap_state.proofs.Facts.{Sound, ranges-fact, ranges-true, sound-fact, sound-true}
+use Rattle.heap_state.proofs.Facts.{Ranges, Sound, ranges-fact, ranges-true, sound-fact, sound-true}
 use Rattle.heap_state.proofs.Heads.{placed-append}
 use Rattle.heap_state.proofs.Counters.{bytes-append, sums, granted-bytes, free-bytes}
 use Rattle.heap_state.proofs.Crossing.{disjoint-append}
@@ -31,6 +31,20 @@ pub record Tested (h : Heap) (arena ledger : List ℕ) : Type 0 where
   pub total : h .total ≡ bytesOf (blocksOf (take (h .count) ledger)) + bytesOf (freeUp 0 (h .heads) arena)
 
 module _ (h : Heap) (arena ledger : List ℕ) where
+  pub ranges-of : lengthsb (length arena) (length ledger) && orderb (h .order) && leb (h .count) (length ledger) ≡ true → Ranges h arena ledger
+  unfolding rangesb
+  ranges-of e = ranges-fact h arena ledger e
+
+  pub total-fits : Ranges h arena ledger → grantedb (h .order) (length arena * 8) 0 (take (h .count) ledger) ≡ true →
+      bytesOf (blocksOf (take (h .count) ledger)) + bytesOf (freeUp 0 (h .heads) arena) < 2 ^ 64
+  unfolding grantedb
+  total-fits r g =
+      let ws = take (h .count) ledger in
+      let p = both (recordsb (h .order) ws && endsb 0 ws) (placedb (length arena * 8) (blocksOf ws)) g in
+      let q = both (recordsb (h .order) ws) (endsb 0 ws) (p .0) in
+      let l : length ws ≡ h .count = length-take-le (h .count) ledger (r .room) in
+      omega (arith, granted-bytes (h .order) ws (r .order-high) (q .0), free-bytes 33 0 (record { heads = h .heads; arena = arena }) (omega arith))
+
   pub tested : Sound h arena ledger → Tested h arena ledger × (crossb (freeUp 0 (h .heads) arena) (blocksOf (take (h .count) ledger)) ≡ true)
   unfolding freeb grantedb rangesb
   tested s =

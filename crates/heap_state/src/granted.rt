@@ -4,12 +4,12 @@ ghost use Prim.Native.Nat.{_≤_};
 ghost use lib.ListN.{length, take};
 ghost use Rattle.ledger.specs.Ledger.{recordb};
 ghost use Rattle.heap_state.specs.Parts.{nextb, grantedb, Summed};
+use super::Sums;
+use super::free::placed;
 use ledger::address_of;
 use ledger::class_of;
 use ledger::gap_of;
 use ledger::requested_of;
-use super::Sums;
-use super::free::placed;
 
 // A record's word by itself: its layout, its class, and a block that holds the request.
 fn word_ok(order: u64, w: u64) -> bool

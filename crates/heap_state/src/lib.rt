@@ -6,8 +6,8 @@ mod pairs;
 mod ranges;
 mod soundness;
 
-pub use soundness::sound;
 use answers::Answer;
+pub use soundness::sound;
 
 // ORDER, the heads of the 33 lists of free blocks, the number of ledger records, and three counts of bytes.
 pub struct Heap {

@@ -24,7 +24,14 @@ fn apart(a: u64, size: u64, b: u64, other: u64) -> bool
 }
 
 // A block and the blocks of a list from a node on, at most so many.
-fn apart_from_list(class: u64, address: u64, other: u64, head: u64, arena: &[u64], most: usize) -> bool
+fn apart_from_list(
+    class: u64,
+    address: u64,
+    other: u64,
+    head: u64,
+    arena: &[u64],
+    most: usize,
+) -> bool
     requires { ⌜ (class < 64) × (other < 64) ⌝ }
     ensures { λ r. ⌜ r ≡ apartFrom (blk class address) (listBlocks other most (now (arena .entry)) head) ⌝ }
 {
@@ -52,7 +59,14 @@ fn apart_from_lists(class: u64, address: u64, from: usize, heads: &[u64; 33], ar
 {
     let mut other = from;
     while other < 33 {
-        if !apart_from_list(class, address, other as u64, heads[other], arena, arena.len()) {
+        if !apart_from_list(
+            class,
+            address,
+            other as u64,
+            heads[other],
+            arena,
+            arena.len(),
+        ) {
             return false;
         }
         other += 1;
@@ -78,7 +92,16 @@ fn apart_from_records(class: u64, address: u64, ledger: &[u64], count: usize) ->
 }
 
 // A node of a list and every block after it: the nodes after it, the lists of higher classes, and the granted blocks.
-fn node_apart(class: usize, node: u64, after: u64, left: usize, heads: &[u64; 33], arena: &[u64], ledger: &[u64], count: usize) -> bool
+fn node_apart(
+    class: usize,
+    node: u64,
+    after: u64,
+    left: usize,
+    heads: &[u64; 33],
+    arena: &[u64],
+    ledger: &[u64],
+    count: usize,
+) -> bool
     requires { ⌜ (class < 33) × (count ≤ length (now ledger)) ⌝ }
     ensures { λ r. ⌜ r ≡ apartFrom (blk class node) (listBlocks class left (now (arena .entry)) after ++ (freeUp (class + 1) (now (heads .entry)) (now (arena .entry)) ++ blocksOf (take count (now (ledger .entry))))) ⌝ }
 {

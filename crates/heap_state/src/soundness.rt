@@ -20,7 +20,12 @@ pub fn sound(h: Heap, arena: &[u64], ledger: &[u64]) -> bool
         return false;
     }
     let count = h.count as usize;
-    let granted = records(h.order, arena.len() as u64 * Heap::WORD_BYTES, ledger, count);
+    let granted = records(
+        h.order,
+        arena.len() as u64 * Heap::WORD_BYTES,
+        ledger,
+        count,
+    );
     if !granted.ok {
         return false;
     }

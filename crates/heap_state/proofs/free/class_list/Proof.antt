@@ -10,11 +10,7 @@ use Rattle.heap_state.proofs.Classes.{class-empty, class-low, class-hig
 use borrow.Author.Needs.{needs}
 use Rattle.heap_state.proofs.free.class_list.Statement.{statement}
 use Rattle.heap_state.proofs.free.class_list.Tie as tie
-use Rattle.heap_state.proofs.free.class_list.Reads as reads
-use Rattle.heap_state.proofs.free.class_list.Lts as lts
-use Rattle.heap_state.proofs.free.walk.Reads as walk-reads
 
--- src/free.rt:67:9
 returns : tie.Need-returns
 returns c =
     let a = c .before .before .args in
@@ -23,23 +19,19 @@ returns c =
       bytes-are = λ e. sym (ap bytesOf (blocks-end (a .class) (length (a .arena .now)) (a .arena .now) (a .head) (c .if1 .taken)));
     }
 
--- src/free.rt:73:9
 returns-2 : tie.Need-returns-2
 returns-2 c =
     let a = c .before .before .before .args in
     record { ok-is = sym (class-low (a .order) (a .class) (a .arena .now) (a .head) (c .before .if1 .left) (c .if2 .taken)); bytes-are = λ e. absurd (false≢true e) }
 
--- src/free.rt:79:9
 returns-3 : tie.Need-returns-3
 returns-3 c =
     let a = c .before .before .before .before .args in
     record { ok-is = sym (class-high (a .order) (a .class) (a .arena .now) (a .head) (c .before .before .if1 .left) (c .if3 .taken)); bytes-are = λ e. absurd (false≢true e) }
 
--- src/free.rt:84:5
 walk-requires : tie.Need-walk-requires
 walk-requires c κs = search needs
 
--- src/free.rt:62:1
 returns-4 : tie.Need-returns-4
 returns-4 c =
     let a = c .before .before .before .before .before .args in

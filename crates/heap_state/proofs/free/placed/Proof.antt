@@ -11,36 +11,28 @@ use Rattle.heap_state.proofs.Heads.{block-fact, block-true}
 use borrow.Author.Needs.{needs}
 use Rattle.heap_state.proofs.free.placed.Statement.{statement}
 use Rattle.heap_state.proofs.free.placed.Tie as tie
-use Rattle.heap_state.proofs.free.placed.Reads as reads
-use Rattle.heap_state.proofs.free.placed.Lts as lts
 
--- src/free.rt:15:16
 shl-size : tie.Need-shl-size
 shl-size c = search needs
 
--- src/free.rt:16:19
 sub-if1 : tie.Need-sub-if1
 sub-if1 c = rw (shifted (c .args .class) (c .pre)) (pow-pos (c .args .class))
 
--- src/free.rt:17:9
 returns : tie.Need-returns
 returns c =
     let a = c .before .args in
     sym (no _ (λ e. c .if1 .taken (rw (shifted (a .class) (c .before .pre)) (and-mask (a .address) (a .class) ∙ block-fact (a .bytes) (a .class) (a .address) e .aligned))))
 
--- src/free.rt:20:9
 returns-2 : tie.Need-returns-2
 returns-2 c =
     let a = c .before .before .args in
     sym (no _ (λ e. let p = block-fact (a .bytes) (a .class) (a .address) e in omega arith))
 
--- src/free.rt:23:9
 returns-3 : tie.Need-returns-3
 returns-3 c =
     let a = c .before .before .before .args in
     sym (no _ (λ e. let p = block-fact (a .bytes) (a .class) (a .address) e in omega (arith, pow-pos (a .class))))
 
--- src/free.rt:11:1
 returns-4 : tie.Need-returns-4
 returns-4 c =
     let s = c .before .before .before in

@@ -14,10 +14,6 @@ use Rattle.heap_state.proofs.Walks.{blocks-end, blocks-step, list-end, 
 use borrow.Author.Needs.{needs}
 use Rattle.heap_state.proofs.free.walk.Statement.{statement}
 use Rattle.heap_state.proofs.free.walk.Tie as tie
-use Rattle.heap_state.proofs.free.walk.Reads as reads
-use Rattle.heap_state.proofs.free.walk.Lts as lts
-use Rattle.heap_state.proofs.free.placed.Reads as placed-reads
-use Rattle.linked_list.proofs.next.Reads as next-reads
 
 abbrev Inv-loop : tie.InvT-loop
 Inv-loop class head arena size end left₀ node₀ bytes₀ left node bytes =
@@ -27,19 +23,15 @@ Inv-loop class head arena size end left₀ node₀ bytes₀ left node bytes =
 abbrev μ-loop : tie.MeasureT-loop
 μ-loop class head arena size end left₀ node₀ bytes₀ left node bytes = left
 
--- src/free.rt:33:16
 shl-size : tie.Need-shl-size Inv-loop μ-loop
 shl-size c = search needs
 
--- src/free.rt:34:15
 mul-end : tie.Need-mul-end Inv-loop μ-loop
 mul-end c = search needs
 
--- src/free.rt:35:20
 sub-left : tie.Need-sub-left Inv-loop μ-loop
 sub-left c = search needs
 
--- src/free.rt:38:5
 loop-holds : tie.Need-loop-holds Inv-loop μ-loop
 loop-holds c =
     let s = c .before in
@@ -47,7 +39,6 @@ loop-holds c =
     let e : suc (length (a .arena .now) - 1) ≡ length (a .arena .now) = omega arith in
     (refl, omega (arith, ap (λ (n : ℕ). bytesOf (listBlocks (a .class) n (a .arena .now) (a .head))) e))
 
--- src/free.rt:40:13
 returns : tie.Need-returns Inv-loop μ-loop
 returns c =
     let l = c .before .before .loop in
@@ -57,11 +48,9 @@ returns c =
       bytes-are = λ e. absurd (false≢true e);
     }
 
--- src/free.rt:45:13
 placed-requires : tie.Need-placed-requires Inv-loop μ-loop
 placed-requires c κs = search needs
 
--- src/free.rt:46:13
 returns-2 : tie.Need-returns-2 Inv-loop μ-loop
 returns-2 c =
     let p = c .before in
@@ -75,7 +64,6 @@ returns-2 c =
       bytes-are = λ e. absurd (false≢true e);
     }
 
--- src/free.rt:51:9
 add-bytes : tie.Need-add-bytes Inv-loop μ-loop
 add-bytes c =
     let l = c .before .before .before .before .loop in
@@ -87,19 +75,15 @@ add-bytes c =
       walk-fits (a .class) (length (a .arena .now)) (a .arena .now) (a .head) (l .bytes) (l .left) (l .node) (s .pre .0) (s .pre .2) (c .before .before .before .loop-test .taken) (l .inv .1),
     )
 
--- src/free.rt:52:9
 sub-left-2 : tie.Need-sub-left-2 Inv-loop μ-loop
 sub-left-2 c = search needs
 
--- src/free.rt:53:9
 next-requires : tie.Need-next-requires Inv-loop μ-loop
 next-requires c κs = search needs
 
--- src/free.rt:38:5
 loop-less : tie.Need-loop-less Inv-loop μ-loop
 loop-less c = search needs
 
--- src/free.rt:38:5
 loop-again : tie.Need-loop-again Inv-loop μ-loop
 loop-again c =
     let p = c .before .before in
@@ -122,7 +106,6 @@ loop-again c =
       ),
     )
 
--- src/free.rt:29:1
 returns-3 : tie.Need-returns-3 Inv-loop μ-loop
 returns-3 c =
     let l = c .before .loop in

@@ -8,27 +8,17 @@ use Rattle.heap_state.specs.Parts.{nextb}
 use borrow.Author.Needs.{needs}
 use Rattle.heap_state.proofs.granted.record_ok.Statement.{statement}
 use Rattle.heap_state.proofs.granted.record_ok.Tie as tie
-use Rattle.heap_state.proofs.granted.record_ok.Reads as reads
-use Rattle.heap_state.proofs.granted.record_ok.Lts as lts
-use Rattle.heap_state.proofs.free.placed.Reads as placed-reads
-use Rattle.heap_state.proofs.granted.word_ok.Reads as word-ok-reads
-use Rattle.ledger.proofs.address_of.Reads as address-of-reads
-use Rattle.ledger.proofs.class_of.Reads as class-of-reads
 
--- src/granted.rt:34:9
 word-ok-requires : tie.Need-word-ok-requires
 word-ok-requires c κs = search needs
 
--- src/granted.rt:35:9
 returns : tie.Need-returns
 unfolding nextb
 returns c = rw (sym (c .before .word-ok .ensures) ∙ not-true _ (c .if1 .taken))
 
--- src/granted.rt:37:8
 address-of-requires : tie.Need-address-of-requires
 address-of-requires c κs = search needs
 
--- src/granted.rt:38:9
 returns-2 : tie.Need-returns-2
 unfolding nextb
 returns-2 c =
@@ -36,19 +26,15 @@ returns-2 c =
     let low = lt-leb (s .args .floor) (addressOf (s .args .w)) (omega arith) in
     rw (low, and-false (recordb (s .args .order) (s .args .w)))
 
--- src/granted.rt:40:12
 class-of-requires : tie.Need-class-of-requires
 class-of-requires c κs = search needs
 
--- src/granted.rt:40:25
 address-of-requires-2 : tie.Need-address-of-requires-2
 address-of-requires-2 c κs = search needs
 
--- src/granted.rt:40:5
 placed-requires : tie.Need-placed-requires
 placed-requires c κs = search needs
 
--- src/granted.rt:31:1
 returns-3 : tie.Need-returns-3
 unfolding nextb
 returns-3 c =

@@ -16,12 +16,6 @@ use Rattle.heap_state.proofs.Records.{next-fact, size-small, granted-st
 use borrow.Author.Needs.{needs}
 use Rattle.heap_state.proofs.granted.records.Statement.{statement}
 use Rattle.heap_state.proofs.granted.records.Tie as tie
-use Rattle.heap_state.proofs.granted.records.Reads as reads
-use Rattle.heap_state.proofs.granted.records.Lts as lts
-use Rattle.heap_state.proofs.granted.record_ok.Reads as record-ok-reads
-use Rattle.ledger.proofs.address_of.Reads as address-of-reads
-use Rattle.ledger.proofs.class_of.Reads as class-of-reads
-use Rattle.ledger.proofs.requested_of.Reads as requested-of-reads
 
 abbrev Inv-loop : tie.InvT-loop
 Inv-loop order bytes ledger count floor₀ user₀ allocated₀ i₀ floor user allocated i =
@@ -33,23 +27,18 @@ Inv-loop order bytes ledger count floor₀ user₀ allocated₀ i₀ floor user 
 abbrev μ-loop : tie.MeasureT-loop
 μ-loop order bytes ledger count floor₀ user₀ allocated₀ i₀ floor user allocated i = count - i
 
--- src/granted.rt:52:5
 loop-holds : tie.Need-loop-holds Inv-loop μ-loop
 loop-holds c = (refl, omega arith, omega arith, omega arith, omega arith, omega arith)
 
--- src/granted.rt:53:17
 mul-w : tie.Need-mul-w Inv-loop μ-loop
 mul-w c = search needs
 
--- src/granted.rt:53:17
 shared-slice-read-w : tie.Need-shared-slice-read-w Inv-loop μ-loop
 shared-slice-read-w c = search needs
 
--- src/granted.rt:54:13
 record-ok-requires : tie.Need-record-ok-requires Inv-loop μ-loop
 record-ok-requires c κs = search needs
 
--- src/granted.rt:55:13
 returns : tie.Need-returns Inv-loop μ-loop
 returns c =
     let r = c .before in
@@ -63,11 +52,9 @@ returns c =
       allocated-is = λ e. absurd (false≢true e);
     }
 
--- src/granted.rt:61:28
 class-of-requires : tie.Need-class-of-requires Inv-loop μ-loop
 class-of-requires c κs = search needs
 
--- src/granted.rt:61:20
 shl-size : tie.Need-shl-size Inv-loop μ-loop
 shl-size c =
     let r = c .before .before in
@@ -77,15 +64,12 @@ shl-size c =
     let f = next-fact (a .order) (a .bytes) (l .loop .floor) w (sym (r .record-ok .ensures) ∙ not-false _ (c .before .if1 .left)) in
     omega arith
 
--- src/granted.rt:62:17
 requested-of-requires : tie.Need-requested-of-requires Inv-loop μ-loop
 requested-of-requires c κs = search needs
 
--- src/granted.rt:62:9
 add-user : tie.Need-add-user Inv-loop μ-loop
 add-user c = omega arith
 
--- src/granted.rt:63:9
 add-allocated : tie.Need-add-allocated Inv-loop μ-loop
 add-allocated c =
     let r = c .before .before .before in
@@ -97,11 +81,9 @@ add-allocated c =
     let f = next-fact (a .order) (a .bytes) (l .loop .floor) w good in
     omega (arith, shifted (c .before .class-of .result) (omega arith), ap (λ (n : ℕ). 2 ^ n) (c .before .class-of .ensures), size-small (classOf w) (omega arith))
 
--- src/granted.rt:64:17
 address-of-requires : tie.Need-address-of-requires Inv-loop μ-loop
 address-of-requires c κs = search needs
 
--- src/granted.rt:64:17
 add-floor : tie.Need-add-floor Inv-loop μ-loop
 add-floor c =
     let r = c .before .before .before .before in
@@ -113,15 +95,12 @@ add-floor c =
     let f = next-fact (a .order) (a .bytes) (l .loop .floor) w good in
     omega (arith, shifted (c .before .before .class-of .result) (omega arith), ap (λ (n : ℕ). 2 ^ n) (c .before .before .class-of .ensures), size-small (classOf w) (omega arith))
 
--- src/granted.rt:65:9
 add-i : tie.Need-add-i Inv-loop μ-loop
 add-i c = search needs
 
--- src/granted.rt:52:5
 loop-less : tie.Need-loop-less Inv-loop μ-loop
 loop-less c = search needs
 
--- src/granted.rt:52:5
 loop-again : tie.Need-loop-again Inv-loop μ-loop
 loop-again c =
     let r = c .before .before .before .before in
@@ -142,7 +121,6 @@ loop-again c =
       omega (arith, z, size-small (classOf w) (omega arith)),
     )
 
--- src/granted.rt:44:1
 returns-2 : tie.Need-returns-2 Inv-loop μ-loop
 returns-2 c =
     let l = c .before in

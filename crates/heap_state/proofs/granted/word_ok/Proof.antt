@@ -10,49 +10,34 @@ use Rattle.heap_state.proofs.Records.{record-fact, record-true}
 use borrow.Author.Needs.{needs}
 use Rattle.heap_state.proofs.granted.word_ok.Statement.{statement}
 use Rattle.heap_state.proofs.granted.word_ok.Tie as tie
-use Rattle.heap_state.proofs.granted.word_ok.Reads as reads
-use Rattle.heap_state.proofs.granted.word_ok.Lts as lts
-use Rattle.ledger.proofs.class_of.Reads as class-of-reads
-use Rattle.ledger.proofs.gap_of.Reads as gap-of-reads
-use Rattle.ledger.proofs.requested_of.Reads as requested-of-reads
 
--- src/granted.rt:18:8
 gap-of-requires : tie.Need-gap-of-requires
 gap-of-requires c κs = search needs
 
--- src/granted.rt:19:9
 returns : tie.Need-returns
 returns c = sym (no _ (λ e. let f = record-fact _ _ e in omega arith))
 
--- src/granted.rt:21:8
 class-of-requires : tie.Need-class-of-requires
 class-of-requires c κs = search needs
 
--- src/granted.rt:22:9
 returns-2 : tie.Need-returns-2
 returns-2 c = sym (no _ (λ e. let f = record-fact _ _ e in omega arith))
 
--- src/granted.rt:24:8
 class-of-requires-2 : tie.Need-class-of-requires-2
 class-of-requires-2 c κs = search needs
 
--- src/granted.rt:25:9
 returns-3 : tie.Need-returns-3
 returns-3 c = sym (no _ (λ e. let f = record-fact _ _ e in omega arith))
 
--- src/granted.rt:27:5
 requested-of-requires : tie.Need-requested-of-requires
 requested-of-requires c κs = search needs
 
--- src/granted.rt:27:32
 class-of-requires-3 : tie.Need-class-of-requires-3
 class-of-requires-3 c κs = search needs
 
--- src/granted.rt:27:24
 shl-result : tie.Need-shl-result
 shl-result c = search needs
 
--- src/granted.rt:15:1
 returns-4 : tie.Need-returns-4
 returns-4 c =
     let r = c .before in

@@ -12,10 +12,6 @@ use Rattle.heap_state.proofs.Crossing.{from-end, from-out, from-step}
 use borrow.Author.Needs.{needs}
 use Rattle.heap_state.proofs.pairs.apart_from_list.Statement.{statement}
 use Rattle.heap_state.proofs.pairs.apart_from_list.Tie as tie
-use Rattle.heap_state.proofs.pairs.apart_from_list.Reads as reads
-use Rattle.heap_state.proofs.pairs.apart_from_list.Lts as lts
-use Rattle.heap_state.proofs.pairs.apart.Reads as apart-reads
-use Rattle.linked_list.proofs.next.Reads as next-reads
 
 abbrev Inv-loop : tie.InvT-loop
 Inv-loop class address other head arena most size bytes node₀ left₀ node left = apartFrom (blk class address) (listBlocks other left arena node) ≡ apartFrom (blk class address) (listBlocks other most arena head)
@@ -23,33 +19,27 @@ Inv-loop class address other head arena most size bytes node₀ left₀ node lef
 abbrev μ-loop : tie.MeasureT-loop
 μ-loop class address other head arena most size bytes node₀ left₀ node left = left
 
--- src/pairs.rt:31:16
 shl-size : tie.Need-shl-size Inv-loop μ-loop
 shl-size c = search needs
 
--- src/pairs.rt:32:17
 shl-bytes : tie.Need-shl-bytes Inv-loop μ-loop
 shl-bytes c = search needs
 
--- src/pairs.rt:35:5
 loop-holds : tie.Need-loop-holds Inv-loop μ-loop
 loop-holds c = refl
 
--- src/pairs.rt:37:13
 returns : tie.Need-returns Inv-loop μ-loop
 returns c =
     let l = c .before .before .loop in
     let a = c .before .before .before .before .args in
     sym (from-out (blk (a .class) (a .address)) (a .other) (l .left) (a .arena .now) (l .node) (c .if1 .taken)) ∙ l .inv
 
--- src/pairs.rt:39:13
 apart-requires : tie.Need-apart-requires Inv-loop μ-loop
 apart-requires c κs =
     let s = c .before .before .before .before in
     let a = s .args in
     rw (shifted (a .class) (s .pre .0), shifted (a .other) (s .pre .1)) (pow-pos (a .class), pow-pos (a .other))
 
--- src/pairs.rt:40:13
 returns-2 : tie.Need-returns-2 Inv-loop μ-loop
 returns-2 c =
     let p = c .before in
@@ -61,19 +51,15 @@ returns-2 c =
     let bad = sym e ∙ not-true _ (c .if2 .taken) in
     sym (step ∙ rw bad) ∙ l .inv
 
--- src/pairs.rt:42:9
 sub-left : tie.Need-sub-left Inv-loop μ-loop
 sub-left c = search needs
 
--- src/pairs.rt:43:9
 next-requires : tie.Need-next-requires Inv-loop μ-loop
 next-requires c κs = search needs
 
--- src/pairs.rt:35:5
 loop-less : tie.Need-loop-less Inv-loop μ-loop
 loop-less c = search needs
 
--- src/pairs.rt:35:5
 loop-again : tie.Need-loop-again Inv-loop μ-loop
 loop-again c =
     let p = c .before .before in
@@ -85,7 +71,6 @@ loop-again c =
     let good = sym e ∙ not-false _ (c .before .if2 .left) in
     rw (c .next .ensures) (rw good at (sym step) ∙ l .inv)
 
--- src/pairs.rt:27:1
 returns-3 : tie.Need-returns-3 Inv-loop μ-loop
 returns-3 c =
     let l = c .before .loop in

@@ -9,9 +9,6 @@ use Rattle.heap_state.proofs.Crossing.{lists-step, lists-end}
 use borrow.Author.Needs.{needs}
 use Rattle.heap_state.proofs.pairs.apart_from_lists.Statement.{statement}
 use Rattle.heap_state.proofs.pairs.apart_from_lists.Tie as tie
-use Rattle.heap_state.proofs.pairs.apart_from_lists.Reads as reads
-use Rattle.heap_state.proofs.pairs.apart_from_lists.Lts as lts
-use Rattle.heap_state.proofs.pairs.apart_from_list.Reads as apart-from-list-reads
 
 abbrev Inv-loop : tie.InvT-loop
 Inv-loop class address from heads arena other₀ other = apartFrom (blk class address) (freeUp other heads arena) ≡ apartFrom (blk class address) (freeUp from heads arena)
@@ -19,23 +16,18 @@ Inv-loop class address from heads arena other₀ other = apartFrom (blk class ad
 abbrev μ-loop : tie.MeasureT-loop
 μ-loop class address from heads arena other₀ other = 33 - other
 
--- src/pairs.rt:54:5
 loop-holds : tie.Need-loop-holds Inv-loop μ-loop
 loop-holds c = refl
 
--- src/pairs.rt:55:59
 mul-apart-from-list : tie.Need-mul-apart-from-list Inv-loop μ-loop
 mul-apart-from-list c = search needs
 
--- src/pairs.rt:55:59
 element-copy-out-apart-from-list : tie.Need-element-copy-out-apart-from-list Inv-loop μ-loop
 element-copy-out-apart-from-list c = search needs
 
--- src/pairs.rt:55:13
 apart-from-list-requires : tie.Need-apart-from-list-requires Inv-loop μ-loop
 apart-from-list-requires c κs = search needs
 
--- src/pairs.rt:56:13
 returns : tie.Need-returns Inv-loop μ-loop
 returns c =
     let p = c .before in
@@ -45,15 +37,12 @@ returns c =
     let bad = sym (p .apart-from-list .ensures) ∙ not-true _ (c .if1 .taken) in
     sym (step ∙ rw bad) ∙ l .loop .inv
 
--- src/pairs.rt:58:9
 add-other : tie.Need-add-other Inv-loop μ-loop
 add-other c = search needs
 
--- src/pairs.rt:54:5
 loop-less : tie.Need-loop-less Inv-loop μ-loop
 loop-less c = search needs
 
--- src/pairs.rt:54:5
 loop-again : tie.Need-loop-again Inv-loop μ-loop
 loop-again c =
     let p = c .before in
@@ -63,7 +52,6 @@ loop-again c =
     let good = sym (p .apart-from-list .ensures) ∙ not-false _ (c .if1 .left) in
     rw good at (sym step) ∙ l .loop .inv
 
--- src/pairs.rt:49:1
 returns-2 : tie.Need-returns-2 Inv-loop μ-loop
 returns-2 c =
     let l = c .before in

@@ -13,11 +13,6 @@ use Rattle.heap_state.proofs.Crossing.{records-step, records-end}
 use borrow.Author.Needs.{needs}
 use Rattle.heap_state.proofs.pairs.apart_from_records.Statement.{statement}
 use Rattle.heap_state.proofs.pairs.apart_from_records.Tie as tie
-use Rattle.heap_state.proofs.pairs.apart_from_records.Reads as reads
-use Rattle.heap_state.proofs.pairs.apart_from_records.Lts as lts
-use Rattle.heap_state.proofs.pairs.apart.Reads as apart-reads
-use Rattle.ledger.proofs.address_of.Reads as address-of-reads
-use Rattle.ledger.proofs.class_of.Reads as class-of-reads
 
 abbrev Inv-loop : tie.InvT-loop
 Inv-loop class address ledger count size i₀ i =
@@ -26,42 +21,33 @@ Inv-loop class address ledger count size i₀ i =
 abbrev μ-loop : tie.MeasureT-loop
 μ-loop class address ledger count size i₀ i = count - i
 
--- src/pairs.rt:68:16
 shl-size : tie.Need-shl-size Inv-loop μ-loop
 shl-size c = search needs
 
--- src/pairs.rt:70:5
 loop-holds : tie.Need-loop-holds Inv-loop μ-loop
 loop-holds c = refl
 
--- src/pairs.rt:71:17
 mul-w : tie.Need-mul-w Inv-loop μ-loop
 mul-w c = search needs
 
--- src/pairs.rt:71:17
 shared-slice-read-w : tie.Need-shared-slice-read-w Inv-loop μ-loop
 shared-slice-read-w c = search needs
 
--- src/pairs.rt:72:34
 address-of-requires : tie.Need-address-of-requires Inv-loop μ-loop
 address-of-requires c κs = search needs
 
--- src/pairs.rt:72:57
 class-of-requires : tie.Need-class-of-requires Inv-loop μ-loop
 class-of-requires c κs = search needs
 
--- src/pairs.rt:72:49
 shl-apart : tie.Need-shl-apart Inv-loop μ-loop
 shl-apart c = omega (arith, c .before .before .shared-slice-known2 .given (c .before .before .before .before .loop .i))
 
--- src/pairs.rt:72:13
 apart-requires : tie.Need-apart-requires Inv-loop μ-loop
 apart-requires c κs =
     let s = c .before .before .before .before .before .before in
     let k : c .class-of .result < 64 = omega (arith, c .before .before .shared-slice-known2 .given (c .before .before .before .before .loop .i)) in
     rw (shifted (s .args .class) (s .pre .0), shifted (c .class-of .result) k) (pow-pos (s .args .class), pow-pos (c .class-of .result))
 
--- src/pairs.rt:73:13
 returns : tie.Need-returns Inv-loop μ-loop
 returns c =
     let p = c .before in
@@ -76,15 +62,12 @@ returns c =
     let bad = sym e ∙ not-true _ (c .if1 .taken) in
     sym (step ∙ rw bad) ∙ l .loop .inv
 
--- src/pairs.rt:75:9
 add-i : tie.Need-add-i Inv-loop μ-loop
 add-i c = search needs
 
--- src/pairs.rt:70:5
 loop-less : tie.Need-loop-less Inv-loop μ-loop
 loop-less c = search needs
 
--- src/pairs.rt:70:5
 loop-again : tie.Need-loop-again Inv-loop μ-loop
 loop-again c =
     let p = c .before in
@@ -99,7 +82,6 @@ loop-again c =
     let good = sym e ∙ not-false _ (c .if1 .left) in
     rw good at (sym step) ∙ l .loop .inv
 
--- src/pairs.rt:64:1
 returns-2 : tie.Need-returns-2 Inv-loop μ-loop
 returns-2 c =
     let l = c .before in

@@ -12,10 +12,6 @@ use Rattle.heap_state.proofs.Crossing.{cross-end, cross-out, cross-step
 use borrow.Author.Needs.{needs}
 use Rattle.heap_state.proofs.pairs.class_apart.Statement.{statement}
 use Rattle.heap_state.proofs.pairs.class_apart.Tie as tie
-use Rattle.heap_state.proofs.pairs.class_apart.Reads as reads
-use Rattle.heap_state.proofs.pairs.class_apart.Lts as lts
-use Rattle.heap_state.proofs.pairs.node_apart.Reads as node-apart-reads
-use Rattle.linked_list.proofs.next.Reads as next-reads
 
 abbrev Inv-loop : tie.InvT-loop
 Inv-loop class heads arena ledger count left₀ node₀ left node =
@@ -25,38 +21,30 @@ Inv-loop class heads arena ledger count left₀ node₀ left node =
 abbrev μ-loop : tie.MeasureT-loop
 μ-loop class heads arena ledger count left₀ node₀ left node = left
 
--- src/pairs.rt:100:20
 mul-node : tie.Need-mul-node Inv-loop μ-loop
 mul-node c = search needs
 
--- src/pairs.rt:100:20
 element-copy-out-node : tie.Need-element-copy-out-node Inv-loop μ-loop
 element-copy-out-node c = search needs
 
--- src/pairs.rt:101:5
 loop-holds : tie.Need-loop-holds Inv-loop μ-loop
 loop-holds c = refl
 
--- src/pairs.rt:103:13
 returns : tie.Need-returns Inv-loop μ-loop
 returns c =
     let l = c .before .before in
     let a = l .before .before .before .before .args in
     sym (cross-out (a .class) (l .loop .left) (a .arena .now) (l .loop .node) (freeUp (a .class + 1) (a .heads .now) (a .arena .now) ++ blocksOf (take (a .count) (a .ledger .now))) (c .if1 .taken)) ∙ l .loop .inv
 
--- src/pairs.rt:105:9
 sub-left : tie.Need-sub-left Inv-loop μ-loop
 sub-left c = search needs
 
--- src/pairs.rt:106:13
 next-requires : tie.Need-next-requires Inv-loop μ-loop
 next-requires c κs = search needs
 
--- src/pairs.rt:107:13
 node-apart-requires : tie.Need-node-apart-requires Inv-loop μ-loop
 node-apart-requires c κs = search needs
 
--- src/pairs.rt:108:13
 returns-2 : tie.Need-returns-2 Inv-loop μ-loop
 returns-2 c =
     let p = c .before in
@@ -70,11 +58,9 @@ returns-2 c =
     let bad = sym e ∙ not-true _ (c .if2 .taken) in
     sym (step ∙ rw bad) ∙ l .loop .inv
 
--- src/pairs.rt:101:5
 loop-less : tie.Need-loop-less Inv-loop μ-loop
 loop-less c = search needs
 
--- src/pairs.rt:101:5
 loop-again : tie.Need-loop-again Inv-loop μ-loop
 loop-again c =
     let p = c .before in
@@ -88,7 +74,6 @@ loop-again c =
     let good = sym e ∙ not-false _ (c .if2 .left) in
     rw (n .next .ensures) (rw good at (sym step) ∙ l .loop .inv)
 
--- src/pairs.rt:95:1
 returns-3 : tie.Need-returns-3 Inv-loop μ-loop
 returns-3 c =
     let l = c .before in

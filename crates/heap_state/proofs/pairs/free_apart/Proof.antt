@@ -9,9 +9,6 @@ use Rattle.heap_state.proofs.Crossing.{classes-step, classes-end}
 use borrow.Author.Needs.{needs}
 use Rattle.heap_state.proofs.pairs.free_apart.Statement.{statement}
 use Rattle.heap_state.proofs.pairs.free_apart.Tie as tie
-use Rattle.heap_state.proofs.pairs.free_apart.Reads as reads
-use Rattle.heap_state.proofs.pairs.free_apart.Lts as lts
-use Rattle.heap_state.proofs.pairs.class_apart.Reads as class-apart-reads
 
 abbrev Inv-loop : tie.InvT-loop
 Inv-loop heads arena ledger count class₀ class = crossb (freeUp class heads arena) (blocksOf (take count ledger)) ≡ crossb (freeUp 0 heads arena) (blocksOf (take count ledger))
@@ -19,15 +16,12 @@ Inv-loop heads arena ledger count class₀ class = crossb (freeUp class heads ar
 abbrev μ-loop : tie.MeasureT-loop
 μ-loop heads arena ledger count class₀ class = 33 - class
 
--- src/pairs.rt:121:5
 loop-holds : tie.Need-loop-holds Inv-loop μ-loop
 loop-holds c = refl
 
--- src/pairs.rt:122:13
 class-apart-requires : tie.Need-class-apart-requires Inv-loop μ-loop
 class-apart-requires c κs = search needs
 
--- src/pairs.rt:123:13
 returns : tie.Need-returns Inv-loop μ-loop
 returns c =
     let p = c .before in
@@ -37,15 +31,12 @@ returns c =
     let bad = sym (p .class-apart .ensures) ∙ not-true _ (c .if1 .taken) in
     sym (step ∙ rw bad) ∙ l .loop .inv
 
--- src/pairs.rt:125:9
 add-class : tie.Need-add-class Inv-loop μ-loop
 add-class c = search needs
 
--- src/pairs.rt:121:5
 loop-less : tie.Need-loop-less Inv-loop μ-loop
 loop-less c = search needs
 
--- src/pairs.rt:121:5
 loop-again : tie.Need-loop-again Inv-loop μ-loop
 loop-again c =
     let p = c .before in
@@ -55,7 +46,6 @@ loop-again c =
     let good = sym (p .class-apart .ensures) ∙ not-false _ (c .if1 .left) in
     rw good at (sym step) ∙ l .loop .inv
 
--- src/pairs.rt:116:1
 returns-2 : tie.Need-returns-2 Inv-loop μ-loop
 returns-2 c =
     let l = c .before in

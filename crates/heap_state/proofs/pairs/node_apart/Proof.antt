@@ -11,17 +11,10 @@ use Rattle.heap_state.proofs.Crossing.{from-three}
 use borrow.Author.Needs.{needs}
 use Rattle.heap_state.proofs.pairs.node_apart.Statement.{statement}
 use Rattle.heap_state.proofs.pairs.node_apart.Tie as tie
-use Rattle.heap_state.proofs.pairs.node_apart.Reads as reads
-use Rattle.heap_state.proofs.pairs.node_apart.Lts as lts
-use Rattle.heap_state.proofs.pairs.apart_from_list.Reads as apart-from-list-reads
-use Rattle.heap_state.proofs.pairs.apart_from_lists.Reads as apart-from-lists-reads
-use Rattle.heap_state.proofs.pairs.apart_from_records.Reads as apart-from-records-reads
 
--- src/pairs.rt:85:9
 apart-from-list-requires : tie.Need-apart-from-list-requires
 apart-from-list-requires c κs = search needs
 
--- src/pairs.rt:86:9
 returns : tie.Need-returns
 returns c =
     let p = c .before in
@@ -29,15 +22,12 @@ returns c =
     let bad = sym (p .apart-from-list .ensures) ∙ not-true _ (c .if1 .taken) in
     sym (from-three (blk (a .class) (a .node)) (listBlocks (a .class) (a .left) (a .arena .now) (a .after)) (freeUp (a .class + 1) (a .heads .now) (a .arena .now)) (blocksOf (take (a .count) (a .ledger .now))) ∙ rw bad)
 
--- src/pairs.rt:88:46
 add-apart-from-lists : tie.Need-add-apart-from-lists
 add-apart-from-lists c = search needs
 
--- src/pairs.rt:88:9
 apart-from-lists-requires : tie.Need-apart-from-lists-requires
 apart-from-lists-requires c κs = search needs
 
--- src/pairs.rt:89:9
 returns-2 : tie.Need-returns-2
 returns-2 c =
     let q = c .before in
@@ -47,11 +37,9 @@ returns-2 c =
     let mine = apartFrom (blk (a .class) (a .node)) (listBlocks (a .class) (a .left) (a .arena .now) (a .after)) in
     sym (from-three (blk (a .class) (a .node)) (listBlocks (a .class) (a .left) (a .arena .now) (a .after)) (freeUp (a .class + 1) (a .heads .now) (a .arena .now)) (blocksOf (take (a .count) (a .ledger .now))) ∙ rw bad (and-false mine))
 
--- src/pairs.rt:91:5
 apart-from-records-requires : tie.Need-apart-from-records-requires
 apart-from-records-requires c κs = search needs
 
--- src/pairs.rt:81:1
 returns-3 : tie.Need-returns-3
 returns-3 c =
     let q = c .before .before in

@@ -1,30 +1,30 @@
+-- `heap_state::ranges::ranges_ok` meets its contract. Assumes nothing.
+use mathlib.Core.Path.{_≡_, sym, _∙_}
+use borrow.Author.Tests.{not-true, not-false}
 use borrow.Author.Needs.{needs}
 use Rattle.heap_state.proofs.ranges.ranges_ok.Statement.{statement}
 use Rattle.heap_state.proofs.ranges.ranges_ok.Tie as tie
-use Rattle.heap_state.proofs.ranges.ranges_ok.Reads as reads
-use Rattle.heap_state.proofs.ranges.ranges_ok.Lts as lts
-use Rattle.heap_state.proofs.ranges.lengths_ok.Reads as lengths-ok-reads
-use Rattle.heap_state.proofs.ranges.order_ok.Reads as order-ok-reads
 
--- src/ranges.rt:41:9
 lengths-ok-requires : tie.Need-lengths-ok-requires
 lengths-ok-requires c κs = search needs
 
--- src/ranges.rt:42:9
 returns : tie.Need-returns
-returns c = search needs
+returns c = sym (rw (sym (c .before .lengths-ok .ensures) ∙ not-true _ (c .if1 .taken)))
 
--- src/ranges.rt:44:9
 order-ok-requires : tie.Need-order-ok-requires
 order-ok-requires c κs = search needs
 
--- src/ranges.rt:45:9
 returns-2 : tie.Need-returns-2
-returns-2 c = search needs
+returns-2 c =
+    let o = c .before in
+    let l = o .before .before in
+    sym (rw (sym (l .lengths-ok .ensures) ∙ not-false _ (o .before .if1 .left), sym (o .order-ok .ensures) ∙ not-true _ (c .if2 .taken)))
 
--- src/ranges.rt:38:1
 returns-3 : tie.Need-returns-3
-returns-3 c = search needs
+returns-3 c =
+    let o = c .before in
+    let l = o .before .before in
+    sym (rw (sym (l .lengths-ok .ensures) ∙ not-false _ (o .before .if1 .left), sym (o .order-ok .ensures) ∙ not-false _ (c .if2 .left)))
 
 pub ranges-ok-spec : {M : Type 1} → statement M
 ranges-ok-spec =
