@@ -52,21 +52,18 @@ module _ (order : ℕ) (heads arena : List ℕ) where
       let e : 33 - k ≡ suc (33 - (k + 1)) = omega arith in
       rw (e, add-one k)
 
-  pub free-step : (k : ℕ) → k < 33 → length heads ≡ 33 → 1 ≤ length arena → freeb order k heads arena ≡ classb order k arena (getD heads k 0) && freeb order (k + 1) heads arena
+  pub free-step : (k : ℕ) → k < 33 → length heads ≡ 33 → 1 ≤ length arena →
+      freeb order k heads arena ≡ classb order k arena (getD heads k 0) && freeb order (k + 1) heads arena
   unfolding freeb classb listb
   free-step k h l n =
       let a = getD heads k 0 in
+      let bytes = length arena * 8 in
       let d : drop k heads ≡ a ∷ drop (k + 1) heads = rw (add-one k) (drop-cons heads k 0 (omega arith)) in
-      let p : placedb (length arena * 8) (freeUp k heads arena) ≡ placedb (length arena * 8) (listBlocks k (length arena) arena a) && placedb (length arena * 8) (freeUp (k + 1) heads arena) =
-      ap (placedb (length arena * 8)) (up-step k h) ∙ placed-append (length arena * 8) (listBlocks k (length arena) arena a) (freeUp (k + 1) heads arena) in
-      let e : length arena ≡ suc (length arena - 1) = omega arith in
-      let one : headsb order (suc k) (drop (k + 1) heads) ≡ headsb order (k + 1) (drop (k + 1) heads) = ap (λ (j : ℕ). headsb order j (drop (k + 1) heads)) (sym (add-one k)) in
-      ap (λ (t : Bool). headsb order k (drop k heads) && listsb arena (drop k heads) && t) p
-      ∙ ap (λ (ds : List ℕ). headsb order k ds && listsb arena ds && (placedb (length arena * 8) (listBlocks k (length arena) arena a) && placedb (length arena * 8) (freeUp (k + 1) heads arena))) d
-      ∙ regroup ((leb 3 k && ltb k order) || eqb a 0) (headsb order (suc k) (drop (k + 1) heads)) (reaches (length arena - 1) arena a) (listsb arena (drop (k + 1) heads))
-      (placedb (length arena * 8) (listBlocks k (length arena) arena a)) (placedb (length arena * 8) (freeUp (k + 1) heads arena))
-      ∙ ap (λ (t : Bool). (((leb 3 k && ltb k order) || eqb a 0) && (reaches (length arena - 1) arena a && placedb (length arena * 8) (listBlocks k (length arena) arena a))) && ((t && listsb arena (drop (k + 1) heads)) && placedb (length arena * 8) (freeUp (k + 1) heads arena))) one
-      ∙ ap (λ (n : ℕ). (((leb 3 k && ltb k order) || eqb a 0) && (reaches (length arena - 1) arena a && placedb (length arena * 8) (listBlocks k n arena a))) && ((headsb order (k + 1) (drop (k + 1) heads) && listsb arena (drop (k + 1) heads)) && placedb (length arena * 8) (freeUp (k + 1) heads arena))) e
+      let e : suc (length arena - 1) ≡ length arena = omega arith in
+      rw (d, up-step k h, placed-append bytes (listBlocks k (length arena) arena a) (freeUp (k + 1) heads arena), e, add-one k)
+      (regroup ((leb 3 k && ltb k order) || eqb a 0) (headsb order (suc k) (drop (suc k) heads))
+      (reaches (length arena - 1) arena a) (listsb arena (drop (suc k) heads))
+      (placedb bytes (listBlocks k (length arena) arena a)) (placedb bytes (freeUp (suc k) heads arena)))
 
   pub free-end : (k : ℕ) → 33 ≤ k → length heads ≡ 33 → freeb order k heads arena ≡ true
   unfolding freeb

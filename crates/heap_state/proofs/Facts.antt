@@ -70,7 +70,9 @@ ranges-fact h arena ledger e =
 pub ranges-true : (h : Heap) (arena ledger : List ℕ) → Ranges h arena ledger → rangesb h arena ledger ≡ true
 unfolding rangesb
 ranges-true h arena ledger r =
-    rw (le-leb 2 (length arena) (r .arena-low), le-leb (length arena) 1048576 (r .arena-high), le-leb 1 (length ledger) (r .ledger-low), le-leb (length ledger) 65535 (r .ledger-high), le-leb 4 (h .order) (r .order-low), le-leb (h .order) 33 (r .order-high), le-leb (h .count) (length ledger) (r .room))
+    let lengths : Lengths (length arena) (length ledger) =
+    record { arena-low = r .arena-low; arena-high = r .arena-high; ledger-low = r .ledger-low; ledger-high = r .ledger-high } in
+    rw (lengths-true (length arena) (length ledger) lengths, order-true (h .order) (r .order-low) (r .order-high), le-leb (h .count) (length ledger) (r .room))
 
 pub record Sound (h : Heap) (arena ledger : List ℕ) : Type 0 where
   pub ranges : Ranges h arena ledger

@@ -7,14 +7,19 @@ use native.Mathlib.Omega.{arith}
 use lib.Dec.{eqb}
 use lib.ListN.{length}
 use borrow.Author.Tests.{ne-eqb}
-use Rattle.words.proofs.Tests.{and-false}
+use Rattle.words.proofs.Tests.{and-false, clash}
 use Rattle.linked_list.specs.Links.{next, nodes}
 use Rattle.linked_list.proofs.Steps.{nodes-end, nodes-step}
+use Rattle.heap_state.specs.declared.Tally.{Tally}
 use Rattle.heap_state.specs.Sound.{Block, blk, reaches, placedb, bytesOf}
-use Rattle.heap_state.specs.Parts.{blockb, listBlocks, listb}
+use Rattle.heap_state.specs.Parts.{blockb, listBlocks, listb, Tallied}
 use Rattle.heap_state.proofs.Joined.{and-swap}
 use Rattle.heap_state.proofs.Heads.{placed-cons}
 use Rattle.heap_state.proofs.Counters.{nodes-bytes}
+
+-- where a test answers that all is not well, no bytes are told
+pub wrong-is : {ok : Bool} {bytes : ℕ} {r : Tally} → r .ok ≡ false → ok ≡ false → Tallied ok bytes r
+wrong-is e f = record { ok-is = e ∙ sym f; bytes-are = λ t. absurd (clash t e) }
 
 pub blocks-end : (k most : ℕ) (arena : List ℕ) (a : ℕ) → a ≡ 0 → listBlocks k most arena a ≡ []
 blocks-end k most arena a e = rw (e, nodes-end most arena)

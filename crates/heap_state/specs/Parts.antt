@@ -40,6 +40,12 @@ pub record Tallied (ok : Bool) (bytes : ℕ) (r : Tally) : Type 0 where
   pub ok-is : r .ok ≡ ok
   pub bytes-are : r .ok ≡ true → r .bytes ≡ bytes
 
+abbrev pub Walked : ℕ → ℕ → List ℕ → Tally → Type 0
+Walked k head arena r = Tallied (listb (length arena * 8) k (length arena - 1) arena head) (bytesOf (listBlocks k (length arena) arena head)) r
+
+abbrev pub Classed : ℕ → ℕ → ℕ → List ℕ → Tally → Type 0
+Classed order k head arena r = Tallied (classb order k arena head) (bytesOf (listBlocks k (length arena) arena head)) r
+
 -- ---- the granted blocks
 
 abbrev pub blocksOf : List ℕ → List Block
@@ -61,6 +67,10 @@ pub record Summed (ok : Bool) (ws : List ℕ) (r : Sums) : Type 0 where
   pub ok-is : r .ok ≡ ok
   pub user-is : r .ok ≡ true → r .user ≡ requests (map grantOf ws)
   pub allocated-is : r .ok ≡ true → r .allocated ≡ bytesOf (blocksOf ws)
+
+-- the blocks after those of class k, where the ledger's records are these
+abbrev pub laterBlocks : ℕ → List ℕ → List ℕ → List ℕ → List Block
+laterBlocks k heads arena ws = freeUp (k + 1) heads arena ++ blocksOf ws
 
 -- ---- pairs: each block of the first list is apart from all that come after it
 unfoldable pub crossb : List Block → List Block → Bool

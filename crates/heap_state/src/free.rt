@@ -1,9 +1,10 @@
 // The lists of free blocks: whether each is a list of blocks in their place, and the bytes of all.
 ghost use mathlib.Core.Path.{_≡_};
-ghost use Prim.Native.Nat.{_-_, _*_, _≤_, _<_};
+ghost use mathlib.Core.Bool.{false};
+ghost use Prim.Native.Nat.{_≤_, _<_};
 ghost use lib.ListN.{length};
 ghost use Rattle.heap_state.specs.Sound.{bytesOf};
-ghost use Rattle.heap_state.specs.Parts.{blockb, listBlocks, listb, classb, freeUp, freeb, Tallied};
+ghost use Rattle.heap_state.specs.Parts.{blockb, freeUp, freeb, Tallied, Walked, Classed};
 use super::Heap;
 use super::Tally;
 use linked_list::next;
@@ -26,10 +27,20 @@ pub(crate) fn placed(class: u64, address: u64, bytes: u64) -> bool
     size <= bytes - address
 }
 
+// What is answered where a list is wrong.
+fn wrong() -> Tally
+    ensures { λ r. ⌜ r .ok ≡ false ⌝ }
+{
+    Tally {
+        ok: false,
+        bytes: 0,
+    }
+}
+
 // Walks a list as far as it may go, fewer nodes than the arena has words, since links of a damaged arena may go round.
 fn walk(class: u64, head: u64, arena: &[u64]) -> Tally
     requires { ⌜ (class ≤ 32) × (1 ≤ length (now arena)) × (length (now arena) ≤ 1048576) ⌝ }
-    ensures { λ r. ⌜ Tallied (listb (length (now (arena .entry)) * 8) class (length (now (arena .entry)) - 1) (now (arena .entry)) head) (bytesOf (listBlocks class (length (now (arena .entry))) (now (arena .entry)) head)) r ⌝ }
+    ensures { λ r. ⌜ Walked class head (now (arena .entry)) r ⌝ }
 {
     let size = 1u64 << class;
     let end = arena.len() as u64 * Heap::WORD_BYTES;
@@ -38,16 +49,10 @@ fn walk(class: u64, head: u64, arena: &[u64]) -> Tally
     let mut bytes: u64 = 0;
     while node != 0 {
         if left == 0 {
-            return Tally {
-                ok: false,
-                bytes: 0,
-            };
+            return wrong();
         }
         if !placed(class, node, end) {
-            return Tally {
-                ok: false,
-                bytes: 0,
-            };
+            return wrong();
         }
         bytes += size;
         left -= 1;
@@ -62,22 +67,16 @@ fn walk(class: u64, head: u64, arena: &[u64]) -> Tally
 // One class: a list only where the class may have one.
 fn class_list(order: u64, class: u64, head: u64, arena: &[u64]) -> Tally
     requires { ⌜ (order ≤ 33) × (2 ≤ length (now arena)) × (length (now arena) ≤ 1048576) ⌝ }
-    ensures { λ r. ⌜ Tallied (classb order class (now (arena .entry)) head) (bytesOf (listBlocks class (length (now (arena .entry))) (now (arena .entry)) head)) r ⌝ }
+    ensures { λ r. ⌜ Classed order class head (now (arena .entry)) r ⌝ }
 {
     if head == 0 {
         return Tally { ok: true, bytes: 0 };
     }
     if class < 3 {
-        return Tally {
-            ok: false,
-            bytes: 0,
-        };
+        return wrong();
     }
     if class >= order {
-        return Tally {
-            ok: false,
-            bytes: 0,
-        };
+        return wrong();
     }
     walk(class, head, arena)
 }
@@ -91,10 +90,7 @@ pub(crate) fn free_lists(order: u64, heads: &[u64; 33], arena: &[u64]) -> Tally
     while class < 33 {
         let list = class_list(order, class as u64, heads[class], arena);
         if !list.ok {
-            return Tally {
-                ok: false,
-                bytes: 0,
-            };
+            return wrong();
         }
         bytes += list.bytes;
         class += 1;

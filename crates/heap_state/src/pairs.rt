@@ -7,7 +7,7 @@ ghost use Prim.Native.Nat.{_+_, _≤_, _<_};
 ghost use lib.Dec.{leb};
 ghost use lib.ListN.{length, take, getD};
 ghost use Rattle.heap_state.specs.Sound.{blk, apartFrom};
-ghost use Rattle.heap_state.specs.Parts.{listBlocks, freeUp, blocksOf, crossb};
+ghost use Rattle.heap_state.specs.Parts.{listBlocks, freeUp, blocksOf, laterBlocks, crossb};
 use ledger::address_of;
 use ledger::class_of;
 use linked_list::next;
@@ -103,7 +103,7 @@ fn node_apart(
     count: usize,
 ) -> bool
     requires { ⌜ (class < 33) × (count ≤ length (now ledger)) ⌝ }
-    ensures { λ r. ⌜ r ≡ apartFrom (blk class node) (listBlocks class left (now (arena .entry)) after ++ (freeUp (class + 1) (now (heads .entry)) (now (arena .entry)) ++ blocksOf (take count (now (ledger .entry))))) ⌝ }
+    ensures { λ r. ⌜ r ≡ apartFrom (blk class node) (listBlocks class left (now (arena .entry)) after ++ laterBlocks class (now (heads .entry)) (now (arena .entry)) (take count (now (ledger .entry)))) ⌝ }
 {
     if !apart_from_list(class as u64, node, class as u64, after, arena, left) {
         return false;
@@ -117,7 +117,7 @@ fn node_apart(
 // Each node of a class's list and every block after it.
 fn class_apart(class: usize, heads: &[u64; 33], arena: &[u64], ledger: &[u64], count: usize) -> bool
     requires { ⌜ (class < 33) × (count ≤ length (now ledger)) ⌝ }
-    ensures { λ r. ⌜ r ≡ crossb (listBlocks class (length (now (arena .entry))) (now (arena .entry)) (getD (now (heads .entry)) class 0)) (freeUp (class + 1) (now (heads .entry)) (now (arena .entry)) ++ blocksOf (take count (now (ledger .entry)))) ⌝ }
+    ensures { λ r. ⌜ r ≡ crossb (listBlocks class (length (now (arena .entry))) (now (arena .entry)) (getD (now (heads .entry)) class 0)) (laterBlocks class (now (heads .entry)) (now (arena .entry)) (take count (now (ledger .entry)))) ⌝ }
 {
     let mut left = arena.len();
     let mut node = heads[class];

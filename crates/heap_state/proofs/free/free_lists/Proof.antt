@@ -1,13 +1,13 @@
 -- `heap_state::free::free_lists` meets its contract: the classes left are tested as all are, and their bytes are what is left to add.
 -- Assumes nothing.
 use mathlib.Core.Path.{_≡_, refl, sym, ap, _∙_}
-use mathlib.Core.Bool.{Bool, false≢true, _&&_}
 use Prim.Native.Nat.{ℕ, _+_, _-_, _≤_}
 use native.Mathlib.Omega.{arith}
 use lib.ListN.{length, getD}
 use borrow.Author.Tests.{not-true, not-false}
 use Rattle.heap_state.specs.Sound.{bytesOf}
 use Rattle.heap_state.specs.Parts.{freeUp, freeb}
+use Rattle.heap_state.proofs.Walks.{wrong-is}
 use Rattle.heap_state.proofs.Classes.{free-step, free-end, sum-step, sum-end, sum-small}
 use borrow.Author.Needs.{needs}
 use Rattle.heap_state.proofs.free.free_lists.Statement.{statement}
@@ -32,17 +32,18 @@ element-copy-out-class-list c = search needs
 class-list-requires : tie.Need-class-list-requires Inv-loop μ-loop
 class-list-requires c κs = search needs
 
+wrong-requires : tie.Need-wrong-requires Inv-loop μ-loop
+wrong-requires c κs = search needs
+
 returns : tie.Need-returns Inv-loop μ-loop
 returns c =
-    let v = c .before .before in
+    let v = c .before .before .before in
     let l = v .before .before .before .loop in
     let s = v .before .before .before .before .before in
     let a = s .args in
-    let bad = sym (v .class-list .ensures .ok-is) ∙ not-true _ (c .if1 .taken) in
-    record {
-      ok-is = sym (free-step (a .order) (a .heads .now) (a .arena .now) (l .class) (omega arith) (s .pre .0) (omega arith) ∙ rw bad) ∙ l .inv .0;
-      bytes-are = λ e. absurd (false≢true e);
-    }
+    let bad = sym (v .class-list .ensures .ok-is) ∙ not-true _ (c .before .if1 .taken) in
+    let step = free-step (a .order) (a .heads .now) (a .arena .now) (l .class) (omega arith) (s .pre .0) (omega arith) in
+    wrong-is (c .wrong .ensures) (sym (l .inv .0) ∙ step ∙ rw bad)
 
 add-bytes : tie.Need-add-bytes Inv-loop μ-loop
 add-bytes c =
@@ -92,6 +93,7 @@ free-lists-spec =
     mul-class-list
     element-copy-out-class-list
     class-list-requires
+    wrong-requires
     returns
     add-bytes
     add-class

@@ -1,7 +1,6 @@
 -- `heap_state::free::walk` meets its contract: the nodes left are tested as the whole list is, and their bytes are what is left to add.
 -- Assumes nothing.
 use mathlib.Core.Path.{_≡_, refl, sym, ap, _∙_}
-use mathlib.Core.Bool.{false≢true}
 use Prim.Native.Nat.{ℕ, suc, _+_, _*_, _-_, _^_}
 use native.Mathlib.Omega.{arith}
 use lib.ListN.{length}
@@ -10,7 +9,7 @@ use Rattle.linked_list.specs.Links.{next}
 use Rattle.heap_state.specs.Sound.{bytesOf}
 use Rattle.heap_state.specs.Parts.{listBlocks, listb}
 use Rattle.heap_state.proofs.Joined.{shifted}
-use Rattle.heap_state.proofs.Walks.{blocks-end, blocks-step, list-end, list-out, list-step, walk-fits}
+use Rattle.heap_state.proofs.Walks.{wrong-is, blocks-end, blocks-step, list-end, list-out, list-step, walk-fits}
 use borrow.Author.Needs.{needs}
 use Rattle.heap_state.proofs.free.walk.Statement.{statement}
 use Rattle.heap_state.proofs.free.walk.Tie as tie
@@ -39,30 +38,32 @@ loop-holds c =
     let e : suc (length (a .arena .now) - 1) ≡ length (a .arena .now) = omega arith in
     (refl, omega (arith, ap (λ (n : ℕ). bytesOf (listBlocks (a .class) n (a .arena .now) (a .head))) e))
 
+wrong-requires : tie.Need-wrong-requires Inv-loop μ-loop
+wrong-requires c κs = search needs
+
 returns : tie.Need-returns Inv-loop μ-loop
 returns c =
-    let l = c .before .before .loop in
-    let a = c .before .before .before .before .args in
-    record {
-      ok-is = sym (list-out (length (a .arena .now) * 8) (a .class) (l .left) (a .arena .now) (l .node) (c .if1 .taken) (c .before .loop-test .taken)) ∙ l .inv .0;
-      bytes-are = λ e. absurd (false≢true e);
-    }
+    let t = c .before .before in
+    let l = t .before .loop in
+    let a = t .before .before .before .args in
+    let out = list-out (length (a .arena .now) * 8) (a .class) (l .left) (a .arena .now) (l .node) (c .before .if1 .taken) (t .loop-test .taken) in
+    wrong-is (c .wrong .ensures) (sym (l .inv .0) ∙ out)
 
 placed-requires : tie.Need-placed-requires Inv-loop μ-loop
 placed-requires c κs = search needs
 
+wrong-requires-2 : tie.Need-wrong-requires-2 Inv-loop μ-loop
+wrong-requires-2 c κs = search needs
+
 returns-2 : tie.Need-returns-2 Inv-loop μ-loop
 returns-2 c =
-    let p = c .before in
-    let l = p .before .before .before .loop in
-    let a = p .before .before .before .before .before .args in
-    let n = length (a .arena .now) * 8 in
-    let bad = sym (p .placed .ensures) ∙ not-true _ (c .if2 .taken) in
-    record {
-      ok-is =
-          sym (list-step n (a .class) (l .left) (a .arena .now) (l .node) (l .left - 1) (omega arith) (p .before .before .loop-test .taken) ∙ rw bad) ∙ l .inv .0;
-      bytes-are = λ e. absurd (false≢true e);
-    }
+    let p = c .before .before in
+    let t = p .before .before in
+    let l = t .before .loop in
+    let a = t .before .before .before .args in
+    let bad = sym (p .placed .ensures) ∙ not-true _ (c .before .if2 .taken) in
+    let step = list-step (length (a .arena .now) * 8) (a .class) (l .left) (a .arena .now) (l .node) (l .left - 1) (omega arith) (t .loop-test .taken) in
+    wrong-is (c .wrong2 .ensures) (sym (l .inv .0) ∙ step ∙ rw bad)
 
 add-bytes : tie.Need-add-bytes Inv-loop μ-loop
 add-bytes c =
@@ -125,8 +126,10 @@ walk-spec =
     mul-end
     sub-left
     loop-holds
+    wrong-requires
     returns
     placed-requires
+    wrong-requires-2
     returns-2
     add-bytes
     sub-left-2
