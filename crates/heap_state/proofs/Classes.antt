@@ -1,8 +1,8 @@
 -- The lists of free blocks, class by class, at the loop's numbers. Assumes nothing.
-use mathlib.Core.Path.{_≡_, refl, sym, ap, _∙_}
+use mathlib.Core.Path.{_≡_, refl, ap, _∙_}
 use mathlib.Core.Bool.{Bool, true, false, _&&_, _||_}
-use mathlib.Core.List.{List, [], _∷_, _++_, map}
-use Prim.Native.Nat.{ℕ, zero, suc, _+_, _*_, _-_, _^_, _≤_, _<_}
+use mathlib.Core.List.{List, _∷_, _++_}
+use Prim.Native.Nat.{ℕ, suc, _+_, _*_, _-_, _≤_, _<_}
 use native.Mathlib.Numerals.{add-one}
 use native.Mathlib.Omega.{arith}
 use lib.Dec.{leb, ltb, eqb}
@@ -10,7 +10,7 @@ use lib.ListN.{length, getD, drop, drop-of-length-le}
 use lib.Seq.{drop-cons}
 use borrow.Author.Tests.{lt-leb, le-leb, le-ltb, lt-ltb, eq-eqb, ne-eqb}
 use Rattle.words.proofs.Tests.{and-false}
-use Rattle.heap_state.specs.Sound.{Block, blk, headsb, reaches, listsb, freeFrom, placedb, bytesOf}
+use Rattle.heap_state.specs.Sound.{headsb, reaches, listsb, placedb, bytesOf}
 use Rattle.heap_state.specs.Parts.{listBlocks, listb, classb, freeUp, freeb}
 use Rattle.heap_state.proofs.Joined.{and-assoc, and-swap}
 use Rattle.heap_state.proofs.Heads.{placed-append}

@@ -1,34 +1,30 @@
 -- The counters of a sound heap are far below what 64 bits hold. Assumes nothing.
-use mathlib.Core.Path.{_≡_, refl, ap, _∙_}
-use mathlib.Core.Bool.{Bool, true, _&&_}
+use mathlib.Core.Path.{_≡_}
+use mathlib.Core.Bool.{true}
 use mathlib.Core.List.{List, [], _∷_, _++_, map}
 use Prim.Native.Nat.{ℕ, zero, suc, _+_, _*_, _^_, _≤_, _<_}
 use native.Mathlib.Omega.{arith}
-use lib.Dec.{eqb, leb, ltb}
 use lib.ListN.{length, getD, take}
-use lib.Pow.{pow-mono}
 use lib.Seq.{length-take-le}
-use borrow.Author.Tests.{leb-true, ltb-true, eqb-true}
+use borrow.Author.Tests.{eqb-true}
 use Rattle.words.proofs.Tests.{both}
 use Rattle.linked_list.specs.Links.{next, nodes}
-use Rattle.ledger.specs.Ledger.{Grant, grant, grantOf, classOf, requestedOf, gapOf, grants, recordb, recordsb}
+use Rattle.ledger.specs.Ledger.{grantOf, classOf, grants, recordb, recordsb}
 use Rattle.heap_state.specs.declared.Heap.{Heap}
 use Rattle.heap_state.specs.Lists.{Memory, list}
 use Rattle.heap_state.specs.Sound.{Block, blk, blockOf, freeFrom, freeBlocks, grantedBlocks, allBlocks, bytesOf, requests, countersb}
 use Rattle.heap_state.proofs.Facts.{Sound}
+use Rattle.heap_state.proofs.Records.{record-fact, size-small}
 
 pub bytes-append : (xs ys : List Block) → bytesOf (xs ++ ys) ≡ bytesOf xs + bytesOf ys
 bytes-append [] ys = omega arith
 bytes-append (blk k a ∷ xs) ys = omega (arith, bytes-append xs ys)
 
-size-32 : (k : ℕ) → k ≤ 32 → 2 ^ k ≤ 4294967296
-size-32 k h = pow-mono {i = k} {j = 32} h
-
 pub nodes-bytes : (k most : ℕ) (arena : List ℕ) (a : ℕ) → k ≤ 32 → bytesOf (map (blk k) (nodes most arena a)) ≤ most * 4294967296
 unfolding nodes
 nodes-bytes k zero arena a h = omega arith
 nodes-bytes k (suc most) arena zero h = omega arith
-nodes-bytes k (suc most) arena (suc a) h = omega (arith, nodes-bytes k most arena (next arena (suc a)) h, size-32 k h)
+nodes-bytes k (suc most) arena (suc a) h = omega (arith, nodes-bytes k most arena (next arena (suc a)) h, size-small k (omega arith))
 
 pub free-bytes : (n k : ℕ) (m : Memory) → k + n ≤ 33 → bytesOf (freeFrom n k m) ≤ n * (length (m .arena) * 4294967296)
 free-bytes zero k m h = omega arith
@@ -38,19 +34,12 @@ free-bytes (suc n) k m h =
     let e = bytes-append (map (blk k) (list k m)) (freeFrom n (suc k) m) in
     omega arith
 
-pub record-class : (order w : ℕ) → recordb order w ≡ true → classOf w < order
-unfolding recordb
-record-class order w e =
-    let p = both (eqb (gapOf w) 0 && leb 3 (classOf w) && ltb (classOf w) order) (leb (requestedOf w) (2 ^ classOf w)) e in
-    let q = both (eqb (gapOf w) 0 && leb 3 (classOf w)) (ltb (classOf w) order) (p .0) in
-    ltb-true (classOf w) order (q .1)
-
 pub granted-bytes : (order : ℕ) (ws : List ℕ) → order ≤ 33 → recordsb order ws ≡ true → bytesOf (map blockOf (map grantOf ws)) ≤ length ws * 4294967296
 granted-bytes order [] h e = omega arith
 granted-bytes order (w ∷ ws) h e =
     let p = both (recordb order w) (recordsb order ws) e in
-    let c = record-class order w (p .0) in
-    omega (arith, granted-bytes order ws h (p .1), size-32 (classOf w) (omega arith))
+    let f = record-fact order w (p .0) in
+    omega (arith, granted-bytes order ws h (p .1), size-small (classOf w) (omega arith))
 
 pub granted-requests : (ws : List ℕ) → requests (map grantOf ws) ≤ length ws * 16777216
 granted-requests [] = omega arith

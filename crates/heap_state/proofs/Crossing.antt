@@ -2,15 +2,14 @@
 use mathlib.Core.Path.{_≡_, refl, sym, ap, _∙_}
 use mathlib.Core.Bool.{Bool, true, false, _&&_, _||_}
 use mathlib.Core.List.{List, [], _∷_, _++_, append-assoc}
-use Prim.Native.Nat.{ℕ, zero, suc, _+_, _*_, _-_, _^_, _≤_, _<_}
-use native.Mathlib.Numerals.{add-one}
+use Prim.Native.Nat.{ℕ, suc, _+_, _-_, _≤_, _<_}
 use native.Mathlib.Omega.{arith}
 use lib.Dec.{leb}
-use lib.ListN.{length, getD, take, drop-of-length-le, length-take}
-use lib.Seq.{slice, slice-cons}
+use lib.ListN.{length, getD}
+use lib.Seq.{slice}
 use borrow.Author.Tests.{leb-true, le-leb, lt-leb}
 use Rattle.words.proofs.Tests.{same}
-use Rattle.linked_list.specs.Links.{next, nodes}
+use Rattle.linked_list.specs.Links.{next}
 use Rattle.linked_list.proofs.Steps.{nodes-none}
 use Rattle.ledger.specs.Ledger.{classOf, addressOf}
 use Rattle.heap_state.specs.Sound.{Block, blk, apart, apartFrom, disjointb}

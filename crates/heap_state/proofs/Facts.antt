@@ -1,13 +1,12 @@
 -- A sound heap's facts, one by one, and back. Assumes nothing.
 use mathlib.Core.Path.{_≡_}
-use mathlib.Core.Bool.{Bool, true}
+use mathlib.Core.Bool.{true}
 use mathlib.Core.List.{List}
 use Prim.Native.Nat.{ℕ, _*_, _≤_}
-use native.Mathlib.Omega.{arith}
 use lib.ListN.{length, take, drop}
 use borrow.Author.Tests.{leb-true, le-leb}
 use Rattle.words.specs.Words.{zerosb}
-use Rattle.words.proofs.Tests.{both, join}
+use Rattle.words.proofs.Tests.{both}
 use Rattle.ledger.specs.Ledger.{recordsb, ascendingb}
 use Rattle.heap_state.specs.declared.Heap.{Heap}
 use Rattle.heap_state.specs.Sound.{lengthsb, orderb, rangesb, headsb, listsb, allBlocks, placedb, disjointb, countersb, soundb}

@@ -1,15 +1,14 @@
 -- What making answers, by the test that decides it. Assumes nothing.
 use mathlib.Core.Path.{_≡_, refl, ap}
-use mathlib.Core.Bool.{Bool, true, false}
+use mathlib.Core.Bool.{true, false}
 use mathlib.Core.List.{List}
 use Prim.Native.Nat.{ℕ}
 use lib.ListN.{length, replicate}
 use Rattle.answers.specs.declared.Answer.the-variants.{Done, Refused}
 use Rattle.answers.specs.declared.Refusal.the-variants.{BadOrder, BadSize}
 use Rattle.heap_state.specs.declared.Heap.{Heap}
-use Rattle.heap_state.specs.declared.Reply.{Reply}
 use Rattle.heap_state.specs.Sound.{lengthsb, orderb}
-use Rattle.heap_state.specs.State.{State, state, Says, freshHeap, madeIf, making}
+use Rattle.heap_state.specs.State.{state, Says, freshHeap, making}
 
 module _ (order : ℕ) (arena ledger : List ℕ) (h : Heap) where
   pub not-order : orderb order ≡ false → h ≡ freshHeap 0 → Says (making order arena ledger) (record { answer = Refused BadOrder; heap = h }) arena ledger

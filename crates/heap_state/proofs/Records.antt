@@ -1,18 +1,18 @@
 -- The ledger's records, one by one, at the loop's numbers. Assumes nothing.
-use mathlib.Core.Path.{_≡_, refl, sym, ap, _∙_}
-use mathlib.Core.Bool.{Bool, true, false, _&&_}
+use mathlib.Core.Path.{_≡_, sym, ap, _∙_}
+use mathlib.Core.Bool.{Bool, true, _&&_}
 use mathlib.Core.List.{List, [], _∷_, map}
-use Prim.Native.Nat.{ℕ, zero, suc, _+_, _*_, _-_, _^_, _≤_, _<_}
+use Prim.Native.Nat.{ℕ, _+_, _^_, _≤_, _<_}
 use native.Mathlib.Numerals.{add-one}
 use native.Mathlib.Omega.{arith}
-use lib.Dec.{leb, ltb, eqb}
+use lib.Dec.{leb}
 use lib.ListN.{length, getD, take, drop-of-length-le, length-take}
 use lib.Seq.{slice, slice-cons}
 use lib.Pow.{pow-mono}
 use borrow.Author.Tests.{leb-true, ltb-true, eqb-true, le-leb, lt-ltb, eq-eqb}
 use Rattle.words.proofs.Tests.{both}
 use Rattle.ledger.specs.Ledger.{grantOf, classOf, requestedOf, gapOf, addressOf, recordb, recordsb}
-use Rattle.heap_state.specs.Sound.{Block, blk, placedb, bytesOf, requests}
+use Rattle.heap_state.specs.Sound.{placedb, bytesOf, requests}
 use Rattle.heap_state.specs.Parts.{blockb, blocksOf, endsb, nextb, grantedb}
 use Rattle.heap_state.proofs.Joined.{and-swap}
 use Rattle.heap_state.proofs.Heads.{placed-cons}

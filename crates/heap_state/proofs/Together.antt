@@ -1,16 +1,16 @@
 -- The parts of the soundness test come to `soundb`. Assumes nothing.
-use mathlib.Core.Path.{_≡_, refl, sym, ap, _∙_}
-use mathlib.Core.Bool.{Bool, true, false, _&&_}
+use mathlib.Core.Path.{_≡_, sym, _∙_}
+use mathlib.Core.Bool.{true, _&&_}
 use mathlib.Core.List.{List, _++_, map}
 use Prim.Native.Nat.{ℕ, _+_, _*_, _^_, _<_}
 use native.Mathlib.Omega.{arith}
-use lib.Dec.{leb, eqb}
+use lib.Dec.{leb}
 use lib.ListN.{length, take, drop}
 use lib.Seq.{length-take-le}
 use borrow.Author.Tests.{eq-eqb}
 use Rattle.words.specs.Words.{zerosb}
 use Rattle.words.proofs.Tests.{both, join, same}
-use Rattle.ledger.specs.Ledger.{grantOf, recordsb, ascendingb}
+use Rattle.ledger.specs.Ledger.{grantOf, recordsb}
 use Rattle.heap_state.specs.declared.Heap.{Heap}
 use Rattle.heap_state.specs.Sound.{lengthsb, orderb, rangesb, headsb, listsb, placedb, disjointb, bytesOf, requests, countersb, soundb}
 use Rattle.heap_state.specs.Parts.{freeUp, freeb, blocksOf, endsb, grantedb, crossb}

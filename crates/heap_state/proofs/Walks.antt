@@ -2,18 +2,15 @@
 use mathlib.Core.Path.{_≡_, refl, sym, ap, _∙_}
 use mathlib.Core.Bool.{Bool, true, false, _&&_}
 use mathlib.Core.List.{List, [], _∷_, map}
-use Prim.Native.Nat.{ℕ, zero, suc, _+_, _*_, _-_, _^_, _≤_, _<_}
+use Prim.Native.Nat.{ℕ, zero, suc, _+_, _^_, _≤_, _<_}
 use native.Mathlib.Omega.{arith}
-use lib.Dec.{eqb}
-use lib.ListN.{length}
 use borrow.Author.Tests.{ne-eqb}
 use Rattle.words.proofs.Tests.{and-false, clash}
-use Rattle.linked_list.specs.Links.{next, nodes}
+use Rattle.linked_list.specs.Links.{next}
 use Rattle.linked_list.proofs.Steps.{nodes-end, nodes-step}
 use Rattle.heap_state.specs.declared.Tally.{Tally}
-use Rattle.heap_state.specs.Sound.{Block, blk, reaches, placedb, bytesOf}
+use Rattle.heap_state.specs.Sound.{blk, reaches, placedb, bytesOf}
 use Rattle.heap_state.specs.Parts.{blockb, listBlocks, listb, Tallied}
-use Rattle.heap_state.proofs.Joined.{and-swap}
 use Rattle.heap_state.proofs.Heads.{placed-cons}
 use Rattle.heap_state.proofs.Counters.{nodes-bytes}
 

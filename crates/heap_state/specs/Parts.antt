@@ -1,15 +1,15 @@
 -- The parts of the soundness test, as the code goes over the words; proofs/Together.antt proves that they come to `soundb`.
 use mathlib.Core.Path.{_≡_}
-use mathlib.Core.Bool.{Bool, true, false, _&&_, _||_}
+use mathlib.Core.Bool.{Bool, true, _&&_, _||_}
 use mathlib.Core.List.{List, [], _∷_, _++_, map}
-use Prim.Native.Nat.{ℕ, zero, suc, _+_, _-_, _*_, _%_, _^_}
+use Prim.Native.Nat.{ℕ, suc, _+_, _-_, _*_, _%_, _^_}
 use lib.Dec.{leb, ltb, eqb}
-use lib.ListN.{length, take, drop}
+use lib.ListN.{length, drop}
 use Rattle.linked_list.specs.Links.{nodes}
 use Rattle.ledger.specs.Ledger.{grantOf, classOf, addressOf, recordb, recordsb}
 use Rattle.heap_state.specs.declared.Tally.{Tally}
 use Rattle.heap_state.specs.declared.Sums.{Sums}
-use Rattle.heap_state.specs.Sound.{Block, blk, blockOf, headsb, reaches, listsb, freeFrom, placedb, apart, apartFrom, bytesOf, requests}
+use Rattle.heap_state.specs.Sound.{Block, blk, blockOf, headsb, reaches, listsb, freeFrom, placedb, apartFrom, bytesOf, requests}
 
 -- one block is "aligned, above address 0, inside the arena"
 unfoldable pub blockb : ℕ → ℕ → ℕ → Bool

@@ -1,6 +1,5 @@
 -- `heap_state::free::class_list` meets its contract. Assumes nothing.
 use mathlib.Core.Path.{sym, ap}
-use Prim.Native.Nat.{_+_}
 use native.Mathlib.Omega.{arith}
 use lib.ListN.{length}
 use Rattle.heap_state.specs.Sound.{bytesOf}

@@ -1,9 +1,8 @@
 -- `heap_state::free::free_lists` meets its contract: the classes left are tested as all are, and their bytes are what is left to add.
 -- Assumes nothing.
-use mathlib.Core.Path.{_≡_, refl, sym, ap, _∙_}
-use Prim.Native.Nat.{ℕ, _+_, _-_, _≤_}
+use mathlib.Core.Path.{_≡_, refl, sym, _∙_}
+use Prim.Native.Nat.{_+_, _-_}
 use native.Mathlib.Omega.{arith}
-use lib.ListN.{length, getD}
 use borrow.Author.Tests.{not-true, not-false}
 use Rattle.heap_state.specs.Sound.{bytesOf}
 use Rattle.heap_state.specs.Parts.{freeUp, freeb}

@@ -1,10 +1,10 @@
 -- `heap_state::free::placed` meets its contract. Assumes nothing.
-use mathlib.Core.Path.{_≡_, sym, ap, _∙_}
-use Prim.Native.Nat.{ℕ, _-_, _^_}
+use mathlib.Core.Path.{sym, _∙_}
+use Prim.Native.Nat.{_-_, _^_}
 use native.Mathlib.Omega.{arith}
-use lib.Bits.{bitAnd, and-mask}
+use lib.Bits.{and-mask}
 use lib.Pow.{pow-pos}
-use borrow.Author.Tests.{leb-true, le-leb, ne-eqb}
+use borrow.Author.Tests.{leb-true, le-leb}
 use Rattle.words.proofs.Tests.{no, same}
 use Rattle.heap_state.proofs.Joined.{shifted}
 use Rattle.heap_state.proofs.Heads.{block-fact, block-true}

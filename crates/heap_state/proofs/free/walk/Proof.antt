@@ -1,7 +1,7 @@
 -- `heap_state::free::walk` meets its contract: the nodes left are tested as the whole list is, and their bytes are what is left to add.
 -- Assumes nothing.
 use mathlib.Core.Path.{_≡_, refl, sym, ap, _∙_}
-use Prim.Native.Nat.{ℕ, suc, _+_, _*_, _-_, _^_}
+use Prim.Native.Nat.{ℕ, suc, _+_, _*_, _-_}
 use native.Mathlib.Omega.{arith}
 use lib.ListN.{length}
 use borrow.Author.Tests.{not-true, not-false}

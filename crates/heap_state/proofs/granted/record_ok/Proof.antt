@@ -1,5 +1,5 @@
 -- `heap_state::granted::record_ok` meets its contract. Assumes nothing.
-use mathlib.Core.Path.{_≡_, sym, ap, _∙_}
+use mathlib.Core.Path.{sym, _∙_}
 use native.Mathlib.Omega.{arith}
 use borrow.Author.Tests.{not-true, not-false, lt-leb, le-leb}
 use Rattle.words.proofs.Tests.{and-false}

@@ -1,14 +1,14 @@
 -- `heap_state::granted::records` meets its contract: the records left are tested as all are, and their sums are what is left to add.
 -- Assumes nothing.
 use mathlib.Core.Path.{_≡_, refl, sym, ap, _∙_}
-use mathlib.Core.Bool.{Bool, false≢true}
+use mathlib.Core.Bool.{false≢true}
 use mathlib.Core.List.{map}
-use Prim.Native.Nat.{ℕ, _+_, _*_, _-_, _%_, _^_, _≤_, _<_}
+use Prim.Native.Nat.{ℕ, _+_, _*_, _-_, _%_, _^_, _≤_}
 use native.Mathlib.Omega.{arith}
-use lib.ListN.{length, getD, take}
+use lib.ListN.{getD, take}
 use lib.Seq.{slice}
 use borrow.Author.Tests.{not-true, not-false}
-use Rattle.ledger.specs.Ledger.{grantOf, classOf, requestedOf, addressOf}
+use Rattle.ledger.specs.Ledger.{grantOf, classOf}
 use Rattle.heap_state.specs.Sound.{bytesOf, requests}
 use Rattle.heap_state.specs.Parts.{blocksOf, grantedb}
 use Rattle.heap_state.proofs.Joined.{shifted}

@@ -1,8 +1,8 @@
 -- `heap_state::pairs::apart_from_records` meets its contract: the records left are compared as all are. Assumes nothing.
-use mathlib.Core.Path.{_≡_, refl, sym, ap, _∙_}
-use Prim.Native.Nat.{ℕ, _+_, _-_, _≤_, _<_}
+use mathlib.Core.Path.{_≡_, refl, sym, _∙_}
+use Prim.Native.Nat.{_-_, _<_}
 use native.Mathlib.Omega.{arith}
-use lib.ListN.{getD, take}
+use lib.ListN.{take}
 use lib.Pow.{pow-pos}
 use lib.Seq.{slice}
 use borrow.Author.Tests.{not-true, not-false}

@@ -1,13 +1,11 @@
 -- `heap_state::pairs::class_apart` meets its contract: the nodes left are compared as all are. Assumes nothing.
-use mathlib.Core.Path.{_≡_, refl, sym, ap, _∙_}
-use mathlib.Core.List.{_++_}
-use Prim.Native.Nat.{ℕ, _+_, _-_}
+use mathlib.Core.Path.{_≡_, refl, sym, _∙_}
+use Prim.Native.Nat.{_-_}
 use native.Mathlib.Omega.{arith}
 use lib.ListN.{length, getD, take}
 use borrow.Author.Tests.{not-true, not-false}
 use Rattle.linked_list.specs.Links.{next}
-use Rattle.heap_state.specs.Sound.{blk, apartFrom}
-use Rattle.heap_state.specs.Parts.{listBlocks, freeUp, blocksOf, crossb}
+use Rattle.heap_state.specs.Parts.{listBlocks, laterBlocks, crossb}
 use Rattle.heap_state.proofs.Crossing.{cross-end, cross-out, cross-step}
 use borrow.Author.Needs.{needs}
 use Rattle.heap_state.proofs.pairs.class_apart.Statement.{statement}
@@ -15,8 +13,8 @@ use Rattle.heap_state.proofs.pairs.class_apart.Tie as tie
 
 abbrev Inv-loop : tie.InvT-loop
 Inv-loop class heads arena ledger count left₀ node₀ left node =
-    crossb (listBlocks class left arena node) (freeUp (class + 1) heads arena ++ blocksOf (take count ledger))
-    ≡ crossb (listBlocks class (length arena) arena (getD heads class 0)) (freeUp (class + 1) heads arena ++ blocksOf (take count ledger))
+    crossb (listBlocks class left arena node) (laterBlocks class heads arena (take count ledger))
+    ≡ crossb (listBlocks class (length arena) arena (getD heads class 0)) (laterBlocks class heads arena (take count ledger))
 
 abbrev μ-loop : tie.MeasureT-loop
 μ-loop class heads arena ledger count left₀ node₀ left node = left
@@ -34,7 +32,7 @@ returns : tie.Need-returns Inv-loop μ-loop
 returns c =
     let l = c .before .before in
     let a = l .before .before .before .before .args in
-    sym (cross-out (a .class) (l .loop .left) (a .arena .now) (l .loop .node) (freeUp (a .class + 1) (a .heads .now) (a .arena .now) ++ blocksOf (take (a .count) (a .ledger .now))) (c .if1 .taken)) ∙ l .loop .inv
+    sym (cross-out (a .class) (l .loop .left) (a .arena .now) (l .loop .node) (laterBlocks (a .class) (a .heads .now) (a .arena .now) (take (a .count) (a .ledger .now))) (c .if1 .taken)) ∙ l .loop .inv
 
 sub-left : tie.Need-sub-left Inv-loop μ-loop
 sub-left c = search needs
@@ -52,7 +50,7 @@ returns-2 c =
     let t = n .before .before in
     let l = t .before in
     let a = l .before .before .before .before .args in
-    let later = freeUp (a .class + 1) (a .heads .now) (a .arena .now) ++ blocksOf (take (a .count) (a .ledger .now)) in
+    let later = laterBlocks (a .class) (a .heads .now) (a .arena .now) (take (a .count) (a .ledger .now)) in
     let step = cross-step (a .class) (l .loop .left) (a .arena .now) (l .loop .node) later (l .loop .left - 1) (omega arith) (t .loop-test .taken) in
     let e = rw (n .next .ensures) at (p .node-apart .ensures) in
     let bad = sym e ∙ not-true _ (c .if2 .taken) in
@@ -68,7 +66,7 @@ loop-again c =
     let t = n .before .before in
     let l = t .before in
     let a = l .before .before .before .before .args in
-    let later = freeUp (a .class + 1) (a .heads .now) (a .arena .now) ++ blocksOf (take (a .count) (a .ledger .now)) in
+    let later = laterBlocks (a .class) (a .heads .now) (a .arena .now) (take (a .count) (a .ledger .now)) in
     let step = cross-step (a .class) (l .loop .left) (a .arena .now) (l .loop .node) later (l .loop .left - 1) (omega arith) (t .loop-test .taken) in
     let e = rw (n .next .ensures) at (p .node-apart .ensures) in
     let good = sym e ∙ not-false _ (c .if2 .left) in
@@ -78,7 +76,7 @@ returns-3 : tie.Need-returns-3 Inv-loop μ-loop
 returns-3 c =
     let l = c .before in
     let a = l .before .before .before .before .args in
-    sym (cross-end (a .class) (l .loop .left) (a .arena .now) (l .loop .node) (freeUp (a .class + 1) (a .heads .now) (a .arena .now) ++ blocksOf (take (a .count) (a .ledger .now))) (c .loop-test .left)) ∙ l .loop .inv
+    sym (cross-end (a .class) (l .loop .left) (a .arena .now) (l .loop .node) (laterBlocks (a .class) (a .heads .now) (a .arena .now) (take (a .count) (a .ledger .now))) (c .loop-test .left)) ∙ l .loop .inv
 
 pub class-apart-spec : {M : Type 1} → statement M
 class-apart-spec =

@@ -1,6 +1,5 @@
 -- `heap_state::pairs::node_apart` meets its contract. Assumes nothing.
-use mathlib.Core.Path.{_≡_, sym, ap, _∙_}
-use mathlib.Core.Bool.{Bool, false, _&&_}
+use mathlib.Core.Path.{sym, _∙_}
 use Prim.Native.Nat.{_+_}
 use lib.ListN.{take}
 use borrow.Author.Tests.{not-true, not-false}
@@ -19,8 +18,10 @@ returns : tie.Need-returns
 returns c =
     let p = c .before in
     let a = p .before .before .before .args in
+    let own = listBlocks (a .class) (a .left) (a .arena .now) (a .after) in
+    let three = from-three (blk (a .class) (a .node)) own (freeUp (a .class + 1) (a .heads .now) (a .arena .now)) (blocksOf (take (a .count) (a .ledger .now))) in
     let bad = sym (p .apart-from-list .ensures) ∙ not-true _ (c .if1 .taken) in
-    sym (from-three (blk (a .class) (a .node)) (listBlocks (a .class) (a .left) (a .arena .now) (a .after)) (freeUp (a .class + 1) (a .heads .now) (a .arena .now)) (blocksOf (take (a .count) (a .ledger .now))) ∙ rw bad)
+    sym (three ∙ rw bad)
 
 add-apart-from-lists : tie.Need-add-apart-from-lists
 add-apart-from-lists c = search needs
@@ -33,9 +34,10 @@ returns-2 c =
     let q = c .before in
     let p = q .before .before in
     let a = p .before .before .before .args in
+    let own = listBlocks (a .class) (a .left) (a .arena .now) (a .after) in
+    let three = from-three (blk (a .class) (a .node)) own (freeUp (a .class + 1) (a .heads .now) (a .arena .now)) (blocksOf (take (a .count) (a .ledger .now))) in
     let bad = sym (q .apart-from-lists .ensures) ∙ not-true _ (c .if2 .taken) in
-    let mine = apartFrom (blk (a .class) (a .node)) (listBlocks (a .class) (a .left) (a .arena .now) (a .after)) in
-    sym (from-three (blk (a .class) (a .node)) (listBlocks (a .class) (a .left) (a .arena .now) (a .after)) (freeUp (a .class + 1) (a .heads .now) (a .arena .now)) (blocksOf (take (a .count) (a .ledger .now))) ∙ rw bad (and-false mine))
+    sym (three ∙ rw bad (and-false (apartFrom (blk (a .class) (a .node)) own)))
 
 apart-from-records-requires : tie.Need-apart-from-records-requires
 apart-from-records-requires c κs = search needs
@@ -45,9 +47,11 @@ returns-3 c =
     let q = c .before .before in
     let p = q .before .before in
     let a = p .before .before .before .args in
+    let own = listBlocks (a .class) (a .left) (a .arena .now) (a .after) in
+    let three = from-three (blk (a .class) (a .node)) own (freeUp (a .class + 1) (a .heads .now) (a .arena .now)) (blocksOf (take (a .count) (a .ledger .now))) in
     let one = sym (p .apart-from-list .ensures) ∙ not-false _ (q .before .if1 .left) in
     let two = sym (q .apart-from-lists .ensures) ∙ not-false _ (c .before .if2 .left) in
-    c .apart-from-records .ensures ∙ sym (from-three (blk (a .class) (a .node)) (listBlocks (a .class) (a .left) (a .arena .now) (a .after)) (freeUp (a .class + 1) (a .heads .now) (a .arena .now)) (blocksOf (take (a .count) (a .ledger .now))) ∙ rw (one, two))
+    c .apart-from-records .ensures ∙ sym (three ∙ rw (one, two))
 
 pub node-apart-spec : {M : Type 1} → statement M
 node-apart-spec =

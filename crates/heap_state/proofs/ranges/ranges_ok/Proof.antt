@@ -1,5 +1,5 @@
 -- `heap_state::ranges::ranges_ok` meets its contract. Assumes nothing.
-use mathlib.Core.Path.{_≡_, sym, _∙_}
+use mathlib.Core.Path.{sym, _∙_}
 use borrow.Author.Tests.{not-true, not-false}
 use borrow.Author.Needs.{needs}
 use Rattle.heap_state.proofs.ranges.ranges_ok.Statement.{statement}
