@@ -4,3 +4,6 @@ pub mod Free
 pub mod Managing
 pub mod Taking
 pub mod Halves
+pub mod Granting
+pub mod Releasing
+pub mod Adding

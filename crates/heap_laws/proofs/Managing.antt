@@ -1,7 +1,7 @@
 -- A memory that holds lists, with blocks in hand beside the free ones; a block in hand is pushed, a free one is taken in hand. Assumes nothing.
 use mathlib.Core.Path.{_≡_, sym, ap, _∙_}
 use mathlib.Core.List.{List, [], _∷_, _++_}
-use Prim.Native.Nat.{ℕ, _*_, _/_, _≤_, _<_}
+use Prim.Native.Nat.{ℕ, _+_, _*_, _/_, _^_, _≤_, _<_}
 use native.Mathlib.Decide.{ℕ-discrete, decLe}
 use native.Mathlib.Omega.{arith}
 use lib.ListN.{length, getD, set, length-set, List·getD-eq-default}
@@ -14,7 +14,7 @@ use Rattle.heap_state.specs.Lists.{Memory, head, list, push}
 use Rattle.heap_state.specs.Sound.{Block, blk, bytesOf}
 use Rattle.heap_laws.specs.ListRules.{ofClass, pushL}
 use Rattle.heap_laws.proofs.Shuffles.{_~_, then, back, bring, after, before, same-bytes}
-use Rattle.heap_laws.proofs.Placing.{Fits, Placed, next, placed-shuffled, placed-front, beside-front}
+use Rattle.heap_laws.proofs.Placing.{Fits, Beside, Placed, next, placed-shuffled, placed-front, beside-front}
 use Rattle.heap_laws.proofs.Free.{freeOf, free-middle, away-class, class-within, first-word, Word}
 
 -- the lists ls stand in the memory, and their blocks with the others in hand are placed and apart, and come to so many bytes
@@ -48,6 +48,22 @@ module _ {order n total : ℕ} {m : Memory} {ls : List (List ℕ)} where
       let s = before (freeOf 0 ls) r in
       regrouped g (placed-shuffled s (g .placed)) (sym (same-bytes s) ∙ g .bytes)
 
+  -- one more block is taken in hand
+  pub picked-up : {others : List Block} (k a : ℕ) → Fits order (n * 8) k a → Beside (blk k a) (freeOf 0 ls ++ others) → Managed order n total m ls others →
+      Managed order n (total + 2 ^ k) m ls (blk k a ∷ others)
+  picked-up {others} k a f b g =
+      let s = back (bring (blk k a) (freeOf 0 ls) others) in
+      record {
+        some = g .some;
+        classes = g .classes;
+        lists-33 = g .lists-33;
+        heads-33 = g .heads-33;
+        words = g .words;
+        chains = g .chains;
+        placed = placed-shuffled s (next f b (g .placed));
+        bytes = omega (arith, same-bytes s, g .bytes);
+      }
+
   -- the first block in hand comes before the free ones
   pub in-hand : {b : Block} {others : List Block} → Managed order n total m ls (b ∷ others) → Placed order (n * 8) (b ∷ (freeOf 0 ls ++ others))
   in-hand {b} {others} g = placed-shuffled (bring b (freeOf 0 ls) others) (g .placed)
@@ -80,7 +96,7 @@ module _ (heads arena : List ℕ) (ls : List (List ℕ)) (k h : ℕ) (xs : List 
 
 -- ---- the moves
 
-push-shuffle : (k a : ℕ) (ls : List (List ℕ)) (others : List Block) → k < length ls → (freeOf 0 ls ++ blk k a ∷ others) ~ (freeOf 0 (pushL k a ls) ++ others)
+pub push-shuffle : (k a : ℕ) (ls : List (List ℕ)) (others : List Block) → k < length ls → (freeOf 0 ls ++ blk k a ∷ others) ~ (freeOf 0 (pushL k a ls) ++ others)
 unfolding pushL
 push-shuffle k a ls others h =
     let s : freeOf 0 (set ls k (a ∷ ofClass k ls)) ~ (blk k a ∷ freeOf 0 (set ls k (ofClass k ls))) = free-middle 0 k k a [] (ofClass k ls) ls (omega arith) h in
