@@ -7,3 +7,5 @@ pub mod Halves
 pub mod Granting
 pub mod Releasing
 pub mod Adding
+pub mod Tested
+pub mod PlacedTests
