@@ -9,3 +9,5 @@ pub mod Releasing
 pub mod Adding
 pub mod Tested
 pub mod PlacedTests
+pub mod Ledgers
+pub mod Entries
