@@ -11,3 +11,4 @@ pub mod Tested
 pub mod PlacedTests
 pub mod Ledgers
 pub mod Entries
+pub mod Sounds

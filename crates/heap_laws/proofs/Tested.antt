@@ -36,14 +36,14 @@ pub record Listed (order k : ℕ) : Type 0 where
 -- each list that is not empty is one of a class that has lists
 pub heads-fact : (order i : ℕ) (heads : List ℕ) → headsb order i heads ≡ true → (j : ℕ) → (getD heads j 0 ≡ 0) ⊎ Listed order (i + j)
 heads-fact order i [] e j = inl refl
-heads-fact order i (a ∷ heads) e zero = go (either (leb 3 i && ltb i order) (eqb a 0) (both _ _ e .0))
+heads-fact order i (a ∷ heads) e zero = go (either (leb 3 i && ltb i order) (eqb a 0) (both ((leb 3 i && ltb i order) || eqb a 0) (headsb order (suc i) heads) e .0))
   where
     go : (leb 3 i && ltb i order ≡ true) ⊎ (eqb a 0 ≡ true) → (a ≡ 0) ⊎ Listed order (i + 0)
-    go (inl h) = let p = both _ _ h in inr (record { low = omega (arith, leb-true 3 i (p .0)); high = omega (arith, ltb-true i order (p .1)) })
+    go (inl h) = let p = both (leb 3 i) (ltb i order) h in inr (record { low = omega (arith, leb-true 3 i (p .0)); high = omega (arith, ltb-true i order (p .1)) })
     go (inr h) = inl (eqb-true a 0 h)
 heads-fact order i (a ∷ heads) e (suc j) =
     let z : i + suc j ≡ suc i + j = omega arith in
-    rw z (heads-fact order (suc i) heads (both _ _ e .1) j)
+    rw z (heads-fact order (suc i) heads (both ((leb 3 i && ltb i order) || eqb a 0) (headsb order (suc i) heads) e .1) j)
 
 pub heads-true : (order i : ℕ) (heads : List ℕ) → ((j : ℕ) → (getD heads j 0 ≡ 0) ⊎ Listed order (i + j)) → headsb order i heads ≡ true
 heads-true order i [] f = refl
@@ -79,8 +79,8 @@ chain-reaches (suc fewer) arena a (x ∷ xs) c h =
 
 pub lists-fact : (arena heads : List ℕ) → listsb arena heads ≡ true → (j : ℕ) → reaches (length arena - 1) arena (getD heads j 0) ≡ true
 lists-fact arena [] e j = reaches-null (length arena - 1) arena
-lists-fact arena (a ∷ heads) e zero = both _ _ e .0
-lists-fact arena (a ∷ heads) e (suc j) = lists-fact arena heads (both _ _ e .1) j
+lists-fact arena (a ∷ heads) e zero = both (reaches (length arena - 1) arena a) (listsb arena heads) e .0
+lists-fact arena (a ∷ heads) e (suc j) = lists-fact arena heads (both (reaches (length arena - 1) arena a) (listsb arena heads) e .1) j
 
 pub lists-true : (arena heads : List ℕ) → ((j : ℕ) → reaches (length arena - 1) arena (getD heads j 0) ≡ true) → listsb arena heads ≡ true
 lists-true arena [] f = refl

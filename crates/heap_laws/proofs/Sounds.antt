@@ -1,0 +1,82 @@
+-- What a sound heap holds: its lists, its blocks and its grants; and a heap that holds them is sound. Assumes nothing.
+use mathlib.Core.Path.{_≡_, refl, sym, ap, _∙_}
+use mathlib.Core.Logic.{_⊎_, inl, inr}
+use mathlib.Core.Bool.{Bool, true, _&&_}
+use mathlib.Core.List.{List, [], _∷_, _++_}
+use Prim.Native.Nat.{ℕ, zero, suc, _+_, _-_, _*_, _≤_, _<_}
+use native.Mathlib.Decide.{decLe}
+use native.Mathlib.Omega.{arith}
+use lib.Dec.{eqb}
+use lib.ListN.{length, take, drop, getD, List·getD-eq-default}
+use lib.Seq.{ext-getD}
+use borrow.Author.Tests.{eqb-true, eq-eqb}
+use Rattle.words.specs.Words.{zerosb}
+use Rattle.words.proofs.Tests.{both, join}
+use Rattle.ledger.specs.Ledger.{Grant, recordsb, ascendingb}
+use Rattle.linked_list.specs.Links.{nodes}
+use Rattle.linked_list.specs.Chains.{Chain}
+use Rattle.linked_list.proofs.Counting.{chain-few}
+use Rattle.heap_state.specs.declared.Heap.{Heap}
+use Rattle.heap_state.specs.Lists.{Memory, head, list}
+use Rattle.heap_state.specs.Sound.{Block, bytesOf, requests, placedb, disjointb, freeFrom, countersb, reaches}
+use Rattle.heap_state.specs.State.{State, isSound}
+use Rattle.heap_state.proofs.Facts.{Ranges, Sound, sound-fact, sound-true}
+use Rattle.heap_core.specs.Deciding.{memory, granted}
+use Rattle.heap_laws.specs.ListRules.{listsFrom, lists, ofClass}
+use Rattle.heap_laws.proofs.Placing.{placed-front}
+use Rattle.heap_laws.proofs.Free.{freeOf, class-within}
+use Rattle.heap_laws.proofs.Managing.{Managed, list-is}
+use Rattle.heap_laws.proofs.Releasing.{fits-of}
+use Rattle.heap_laws.proofs.Tested.{Listed, heads-fact, heads-true, reaches-chain, chain-reaches, lists-fact, lists-true, listed-at, listed-length, free-is}
+use Rattle.heap_laws.proofs.PlacedTests.{Classed, nothing, also, classed-append, classed-free, placed-fact, placed-true, disjoint-true}
+use Rattle.heap_laws.proofs.Ledgers.{Rows, none, next, rows-fact}
+use Rattle.heap_laws.proofs.Entries.{blocksOf}
+
+-- ---- the lists of a memory are those that stand in it
+
+pub lists-is : {order n total : ℕ} {m : Memory} {ls : List (List ℕ)} {others : List Block} → Managed order n total m ls others → lists m ≡ ls
+unfolding lists
+lists-is {m} {ls} g =
+    let l : length (listsFrom 33 0 m) ≡ 33 = listed-length 33 0 m in
+    ext-getD [] (listsFrom 33 0 m) ls (l ∙ sym (g .lists-33))
+    (λ i h. listed-at 33 0 i m (omega arith) ∙ (let z : 0 + i ≡ i = omega arith in rw z (list-is i g)))
+
+-- ---- what a sound heap holds
+
+pub record Held (st : State) : Type 0 where
+  pub ranges : Ranges (st .heap) (st .arena) (st .ledger)
+  pub managed : Managed (st .heap .order) (length (st .arena)) (st .heap .total) (memory st) (lists (memory st)) (blocksOf (granted st))
+  pub rows : Rows (st .heap .order) 0 (granted st)
+  pub user : st .heap .user ≡ requests (granted st)
+  pub allocated : st .heap .allocated ≡ bytesOf (blocksOf (granted st))
+
+classed-rows : {order floor : ℕ} {gs : List Grant} → Rows order floor gs → Classed order (blocksOf gs)
+classed-rows none = nothing
+classed-rows (next r h rest) = also (record { low = r .low; high = r .high }) (classed-rows rest)
+
+record Counted (st : State) : Type 0 where
+  user : st .heap .user ≡ requests (granted st)
+  allocated : st .heap .allocated ≡ bytesOf (blocksOf (granted st))
+  total : st .heap .total ≡ bytesOf (freeFrom 33 0 (memory st) ++ blocksOf (granted st))
+
+counted : (st : State) → countersb (st .heap) (st .arena) (st .ledger) ≡ true → Counted st
+unfolding countersb
+counted st e =
+    let p = both _ _ e in
+    let q = both _ _ (p .0) in
+    record { user = eqb-true _ _ (q .0); allocated = eqb-true _ _ (q .1); total = eqb-true _ _ (p .1) }
+
+module _ (st : State) (heads-33 : length (st .heap .heads) ≡ 33) (s : Sound (st .heap) (st .arena) (st .ledger)) where
+  -- each head's walk is a chain
+  walk : (j : ℕ) → Chain (st .arena) (head j (memory st)) (list j (memory st))
+  walk j =
+      let e : suc (length (st .arena) - 1) ≡ length (st .arena) = omega (arith, s .ranges .arena-low) in
+      rw e at (reaches-chain (length (st .arena) - 1) (st .arena) (head j (memory st)) (lists-fact (st .arena) (st .heap .heads) (s .lists) j))
+
+  chains : (j : ℕ) → Chain (st .arena) (head j (memory st)) (ofClass j (listsFrom 33 0 (memory st)))
+  unfolding Chain
+  chains j =
+      elim (decLe 33 j) [
+        | yes h ↦ rw (List·getD-eq-default (listsFrom 33 0 (memory st)) [] {n = j} (omega (arith, listed-length 33 0 (memory st)))) (List·getD-eq-default (st .heap .heads) 0 {n = j} (omega arith))
+        | no h ↦ let z : 0 + j ≡ j = omega arith in rw (listed-at 33 0 j (memory st) (omega arith), z) (walk j)
+      ]
