@@ -80,3 +80,76 @@ module _ (st : State) (heads-33 : length (st .heap .heads) ≡ 33) (s : Sound (s
         | yes h ↦ rw (List·getD-eq-default (listsFrom 33 0 (memory st)) [] {n = j} (omega (arith, listed-length 33 0 (memory st)))) (List·getD-eq-default (st .heap .heads) 0 {n = j} (omega arith))
         | no h ↦ let z : 0 + j ≡ j = omega arith in rw (listed-at 33 0 j (memory st) (omega arith), z) (walk j)
       ]
+
+  free-blocks : freeFrom 33 0 (memory st) ≡ freeOf 0 (listsFrom 33 0 (memory st))
+  free-blocks = free-is 33 0 (memory st)
+
+  pub held : Held st
+  unfolding lists
+  held =
+      let rows : Rows (st .heap .order) 0 (granted st) = rows-fact (st .heap .order) 0 (take (st .heap .count) (st .ledger)) (s .records) (s .ascending) in
+      let c = counted st (s .counters) in
+      let bytes : ℕ = length (st .arena) * 8 in
+      let listed : (j : ℕ) → (head j (memory st) ≡ 0) ⊎ Listed (st .heap .order) j = λ j. let z : 0 + j ≡ j = omega arith in rw z at (heads-fact (st .heap .order) 0 (st .heap .heads) (s .heads) j) in
+      let classed = classed-append (classed-free (st .heap .order) (memory st) listed 33 0) (classed-rows rows) in
+      record {
+        ranges = s .ranges;
+        managed = record {
+          some = omega (arith, s .ranges .arena-low);
+          classes = s .ranges .order-high;
+          lists-33 = listed-length 33 0 (memory st);
+          heads-33 = heads-33;
+          words = refl;
+          chains = chains;
+          placed = placed-fact bytes (freeOf 0 (listsFrom 33 0 (memory st)) ++ blocksOf (granted st)) classed
+              (sym (ap (λ (bs : List Block). placedb bytes (bs ++ blocksOf (granted st))) free-blocks) ∙ s .placed)
+              (sym (ap (λ (bs : List Block). disjointb (bs ++ blocksOf (granted st))) free-blocks) ∙ s .disjoint);
+          bytes = sym (ap (λ (bs : List Block). bytesOf (bs ++ blocksOf (granted st))) free-blocks) ∙ sym (c .total);
+        };
+        rows = rows;
+        user = c .user;
+        allocated = c .allocated;
+      }
+
+-- ---- a heap that holds its lists, blocks and grants is sound
+
+module _ (st : State) {ls : List (List ℕ)} (g : Managed (st .heap .order) (length (st .arena)) (st .heap .total) (memory st) ls (blocksOf (granted st))) where
+  heads-of : (j : ℕ) (xs : List ℕ) → ofClass j ls ≡ xs → Chain (st .arena) (head j (memory st)) xs → (head j (memory st) ≡ 0) ⊎ Listed (st .heap .order) (0 + j)
+  unfolding Chain
+  heads-of j [] e c = inl c
+  heads-of j (x ∷ xs) e c =
+      let f = fits-of j g e in
+      inr (record { low = omega (arith, f .low); high = omega (arith, f .high) })
+
+  walks : (j : ℕ) → reaches (length (st .arena) - 1) (st .arena) (head j (memory st)) ≡ true
+  walks j =
+      let w = class-within (length (st .arena)) j ls (placed-front (freeOf 0 ls) (blocksOf (granted st)) (g .placed)) in
+      let l = chain-few (st .arena) (head j (memory st)) (ofClass j ls) (g .chains j) (w .0) (w .1) (g .some) in
+      chain-reaches (length (st .arena) - 1) (st .arena) (head j (memory st)) (ofClass j ls) (g .chains j) (omega arith)
+
+  free-now : freeOf 0 ls ≡ freeFrom 33 0 (memory st)
+  unfolding lists
+  free-now = ap (freeOf 0) (sym (lists-is g)) ∙ sym (free-is 33 0 (memory st))
+
+  counters : st .heap .user ≡ requests (granted st) → st .heap .allocated ≡ bytesOf (blocksOf (granted st)) → countersb (st .heap) (st .arena) (st .ledger) ≡ true
+  unfolding countersb
+  counters u a =
+      join (eqb (st .heap .user) (requests (granted st)) && eqb (st .heap .allocated) (bytesOf (blocksOf (granted st)))) (eqb (st .heap .total) (bytesOf (freeFrom 33 0 (memory st) ++ blocksOf (granted st))))
+      (join (eqb (st .heap .user) (requests (granted st))) (eqb (st .heap .allocated) (bytesOf (blocksOf (granted st)))) (eq-eqb _ _ u) (eq-eqb _ _ a))
+      (eq-eqb _ _ (sym (g .bytes) ∙ ap (λ (bs : List Block). bytesOf (bs ++ blocksOf (granted st))) free-now))
+
+  pub sounds : Ranges (st .heap) (st .arena) (st .ledger) → recordsb (st .heap .order) (take (st .heap .count) (st .ledger)) ≡ true →
+      ascendingb 0 (take (st .heap .count) (st .ledger)) ≡ true → zerosb (drop (st .heap .count) (st .ledger)) ≡ true → st .heap .user ≡ requests (granted st) →
+      st .heap .allocated ≡ bytesOf (blocksOf (granted st)) → isSound st ≡ true
+  sounds r w o z u a =
+      sound-true (st .heap) (st .arena) (st .ledger) (record {
+        ranges = r;
+        heads = heads-true (st .heap .order) 0 (st .heap .heads) (λ j. heads-of j (ofClass j ls) refl (g .chains j));
+        lists = lists-true (st .arena) (st .heap .heads) walks;
+        records = w;
+        ascending = o;
+        zeros = z;
+        placed = sym (ap (λ (bs : List Block). placedb (length (st .arena) * 8) (bs ++ blocksOf (granted st))) free-now) ∙ placed-true (length (st .arena) * 8) (freeOf 0 ls ++ blocksOf (granted st)) (g .placed);
+        disjoint = sym (ap (λ (bs : List Block). disjointb (bs ++ blocksOf (granted st))) free-now) ∙ disjoint-true (freeOf 0 ls ++ blocksOf (granted st)) (g .placed);
+        counters = counters u a;
+      })
