@@ -9,6 +9,7 @@ use Rattle.blocks.proofs.Powers.{multiple-le}
 use Rattle.linked_list.specs.Chains.{Away, Within}
 use Rattle.heap_state.specs.Sound.{Block, blk}
 use Rattle.heap_laws.specs.ListRules.{ofClass}
+use Rattle.heap_laws.specs.Claims.{Word}
 use Rattle.heap_laws.proofs.Shuffles.{_~_, same, keep, swap, then, bring, before}
 use Rattle.heap_laws.proofs.Placing.{Fits, Apart, under, over, Beside, Placed, none, next, beside-front, beside-rest, placed-front, placed-rest}
 
@@ -54,11 +55,6 @@ module _ {order bytes : ℕ} where
       rw e (placed-class (suc i) j ls (placed-rest (map (blk i) l) (freeOf (suc i) ls) p))
 
 -- ---- words
-
--- the word w lies wholly in the block of class k at a
-pub record Word (w k a : ℕ) : Type 0 where
-  pub from : a ≤ 8 * w
-  pub to : 8 * w + 8 ≤ a + 2 ^ k
 
 -- a block's first word is its own
 pub first-word : {order bytes k a : ℕ} → Fits order bytes k a → Word (a / 8) k a

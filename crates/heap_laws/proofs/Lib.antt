@@ -12,3 +12,4 @@ pub mod PlacedTests
 pub mod Ledgers
 pub mod Entries
 pub mod Sounds
+pub mod Keeping

@@ -13,9 +13,10 @@ use Rattle.linked_list.proofs.Counting.{chain-few}
 use Rattle.heap_state.specs.Lists.{Memory, head, list, push}
 use Rattle.heap_state.specs.Sound.{Block, blk, bytesOf}
 use Rattle.heap_laws.specs.ListRules.{ofClass, pushL}
+use Rattle.heap_laws.specs.Claims.{Word}
 use Rattle.heap_laws.proofs.Shuffles.{_~_, then, back, bring, after, before, same-bytes}
 use Rattle.heap_laws.proofs.Placing.{Fits, Beside, Placed, next, placed-shuffled, placed-front, beside-front}
-use Rattle.heap_laws.proofs.Free.{freeOf, free-middle, away-class, class-within, first-word, Word}
+use Rattle.heap_laws.proofs.Free.{freeOf, free-middle, away-class, class-within, first-word}
 
 -- the lists ls stand in the memory, and their blocks with the others in hand are placed and apart, and come to so many bytes
 pub record Managed (order n total : ℕ) (m : Memory) (ls : List (List ℕ)) (others : List Block) : Type 0 where

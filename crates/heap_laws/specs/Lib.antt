@@ -1,1 +1,2 @@
 pub mod ListRules
+pub mod Claims

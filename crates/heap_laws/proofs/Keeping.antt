@@ -1,0 +1,94 @@
+-- The states that calls leave are sound where their memory holds lists and their grants stand in order. Assumes nothing.
+use mathlib.Core.Path.{_≡_, refl, sym, ap, _∙_}
+use mathlib.Core.Bool.{Bool, true, false}
+use mathlib.Core.List.{List, [], _∷_, _++_, map}
+use Prim.Native.Nat.{ℕ, _+_, _-_, _*_, _≤_, _<_, min}
+use native.Mathlib.Omega.{arith}
+use lib.ListN.{length, take, drop, length-map, length-take}
+use Rattle.words.specs.Words.{zerosb}
+use Rattle.answers.specs.declared.Refusal.{Refusal}
+use Rattle.ledger.specs.Ledger.{Grant, grants, grantOf, wordOf, ledgerWords, recordsb, ascendingb}
+use Rattle.heap_state.specs.Lists.{Memory}
+use Rattle.heap_state.specs.Sound.{Block, bytesOf, requests}
+use Rattle.heap_state.specs.State.{State, isSound}
+use Rattle.heap_state.proofs.Facts.{Ranges, Sound, sound-fact}
+use Rattle.heap_core.specs.Deciding.{Decision, refused, done, Check, refuse, judge, memory, granted, withLists, withGrants}
+use Rattle.heap_laws.specs.ListRules.{lists}
+use Rattle.heap_laws.specs.Claims.{Healthy, Follows}
+use Rattle.heap_laws.proofs.Managing.{Managed}
+use Rattle.heap_laws.proofs.Ledgers.{Rows, records-true, ascending-true, words-length, words-zeros, words-taken, words-grants}
+use Rattle.heap_laws.proofs.Entries.{blocksOf}
+use Rattle.heap_laws.proofs.Sounds.{Held, held, sounds, lists-is}
+
+own-words : {order n total : ℕ} {m : Memory} {ls : List (List ℕ)} {others : List Block} → Managed order n total m ls others → Managed order (length (m .arena)) total m ls others
+own-words g = rw (g .words) g
+
+module _ (st : State) (h : Healthy st) where
+  pub sound-state : Sound (st .heap) (st .arena) (st .ledger)
+  sound-state = sound-fact (st .heap) (st .arena) (st .ledger) (h .sound)
+
+  pub holds : Held st
+  holds = held st (h .heads-33) sound-state
+
+  module _ {m : Memory} {ls : List (List ℕ)} where
+    -- other lists, and the grants as they were
+    pub kept-ledger : {total : ℕ} → Managed (st .heap .order) (length (st .arena)) total m ls (blocksOf (granted st)) → Healthy (withLists st m total)
+    kept-ledger {total} g =
+        let s = sound-state in
+        let r = s .ranges in
+        record {
+          heads-33 = g .heads-33;
+          sound = sounds (withLists st m total) (own-words g)
+              (record {
+                arena-low = omega (arith, g .words, r .arena-low);
+                arena-high = omega (arith, g .words, r .arena-high);
+                ledger-low = r .ledger-low;
+                ledger-high = r .ledger-high;
+                order-low = r .order-low;
+                order-high = r .order-high;
+                room = r .room;
+              })
+              (s .records) (s .ascending) (s .zeros) (holds .user) (holds .allocated);
+        }
+
+    -- other lists and other grants
+    pub kept-grants : {gs : List Grant} {user allocated : ℕ} → Managed (st .heap .order) (length (st .arena)) (st .heap .total) m ls (blocksOf gs) → Rows (st .heap .order) 0 gs →
+        length gs ≤ length (st .ledger) → user ≡ requests gs → allocated ≡ bytesOf (blocksOf gs) → Healthy (withGrants st m gs user allocated)
+    kept-grants {gs} {user} {allocated} g rows room u a =
+        let r = sound-state .ranges in
+        let n : ℕ = length (st .ledger) in
+        let e : grants (length gs) (ledgerWords n gs) ≡ gs = words-grants n gs rows room in
+        let l : length (ledgerWords n gs) ≡ n = words-length n gs in
+        let w : take (length gs) (ledgerWords n gs) ≡ map wordOf gs = words-taken n gs room in
+        record {
+          heads-33 = g .heads-33;
+          sound = sounds (withGrants st m gs user allocated) {ls = ls} (rw e (own-words g))
+              (record {
+                arena-low = omega (arith, g .words, r .arena-low);
+                arena-high = omega (arith, g .words, r .arena-high);
+                ledger-low = omega (arith, r .ledger-low);
+                ledger-high = omega (arith, r .ledger-high);
+                order-low = r .order-low;
+                order-high = r .order-high;
+                room = omega arith;
+              })
+              (ap (recordsb (st .heap .order)) w ∙ records-true rows) (ap (ascendingb 0) w ∙ ascending-true rows) (words-zeros n gs) (u ∙ ap requests (sym e))
+              (a ∙ ap (λ (x : List Grant). bytesOf (blocksOf x)) (sym e));
+        }
+
+  pub granted-length : length (granted st) ≡ st .heap .count
+  granted-length =
+      let r = sound-state .ranges in
+      omega (arith, length-map (take (st .heap .count) (st .ledger)) grantOf, length-take (st .heap .count) (st .ledger), r .room)
+
+-- ---- what a call decides: a refusal, or what the rules say
+
+abbrev pub Right : ℕ → List (List ℕ) → Decision → Type 0
+Right value after (refused r) = Unit {0}
+Right value after (done v st) = Follows value after v st
+
+-- a test that holds refuses, and one that does not leaves the rest
+pub judged : (value : ℕ) (after : List (List ℕ)) (t : Bool) (r : Refusal) (cs : List Check) (d : Decision) → (t ≡ false → Right value after (judge cs d)) →
+    Right value after (judge (refuse t r ∷ cs) d)
+judged value after true r cs d f = tt
+judged value after false r cs d f = f refl
