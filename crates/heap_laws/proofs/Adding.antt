@@ -36,7 +36,7 @@ clear-cons {s} {e} k a bs h q c = go (ltb a e) refl (ltb s (a + 2 ^ k)) refl
     go true f false g = below (ltb-false s (a + 2 ^ k) g) c
     go true f true g = absurd (let z : _≡_ {A = ℕ} 0 1 = cc in omega arith)
 
-not-either : (a b : Bool) → a || b ≡ false → (a ≡ false) × (b ≡ false)
+pub not-either : (a b : Bool) → a || b ≡ false → (a ≡ false) × (b ≡ false)
 not-either true b e = absurd (let z : _≡_ {A = ℕ} 0 1 = cc in omega arith)
 not-either false b e = (refl, e)
 

@@ -12,7 +12,7 @@ use Rattle.heap_state.specs.Lists.{Memory}
 use Rattle.heap_state.specs.Sound.{Block, bytesOf, requests}
 use Rattle.heap_state.specs.State.{State, isSound}
 use Rattle.heap_state.proofs.Facts.{Ranges, Sound, sound-fact}
-use Rattle.heap_core.specs.Deciding.{Decision, refused, done, Check, refuse, judge, memory, granted, withLists, withGrants}
+use Rattle.heap_core.specs.Deciding.{Decision, refused, done, memory, granted, withLists, withGrants}
 use Rattle.heap_laws.specs.ListRules.{lists}
 use Rattle.heap_laws.specs.Claims.{Healthy, Follows}
 use Rattle.heap_laws.proofs.Managing.{Managed}
@@ -83,12 +83,11 @@ module _ (st : State) (h : Healthy st) where
 
 -- ---- what a call decides: a refusal, or what the rules say
 
-abbrev pub Right : ℕ → List (List ℕ) → Decision → Type 0
-Right value after (refused r) = Unit {0}
-Right value after (done v st) = Follows value after v st
+pub data Right (value : ℕ) (after : List (List ℕ)) : Decision → Type 0 where
+  refuses : {r : Refusal} → Right value after (refused r)
+  does : {v : ℕ} {st : State} → Follows value after v st → Right value after (done v st)
 
 -- a test that holds refuses, and one that does not leaves the rest
-pub judged : (value : ℕ) (after : List (List ℕ)) (t : Bool) (r : Refusal) (cs : List Check) (d : Decision) → (t ≡ false → Right value after (judge cs d)) →
-    Right value after (judge (refuse t r ∷ cs) d)
-judged value after true r cs d f = tt
-judged value after false r cs d f = f refl
+pub judged : {value : ℕ} {after : List (List ℕ)} (t : Bool) (r : Refusal) (d : Decision) → (t ≡ false → Right value after d) → Right value after (elim t [ true ↦ refused r | false ↦ d ])
+judged true r d f = refuses
+judged false r d f = f refl

@@ -13,3 +13,5 @@ pub mod Ledgers
 pub mod Entries
 pub mod Sounds
 pub mod Keeping
+pub mod AddCalls
+pub mod GrantCalls

@@ -1,0 +1,102 @@
+-- Granting on a sound heap: the first block of the class that serves, the lists by the rules, and a sound heap. Assumes nothing.
+use mathlib.Core.Path.{_≡_, refl, sym, ap, _∙_}
+use mathlib.Core.Bool.{Bool, true, false, not, _||_}
+use mathlib.Core.List.{List, [], _∷_, _++_}
+use Prim.Native.Nat.{ℕ, _+_, _-_, _*_, _^_, _≤_, _<_, max}
+use native.Mathlib.Omega.{arith}
+use lib.Pow.{pow-mono}
+use lib.Dec.{leb}
+use lib.ListN.{length, getD}
+use borrow.Author.Tests.{leb-false}
+use Rattle.answers.specs.declared.Refusal.the-variants.{BadAlign, NoBlock, NoRoom}
+use Rattle.blocks.specs.Blocks.{rounded, roundedAligned, isPowerOfTwo}
+use Rattle.blocks.specs.declared.Rounded.{Rounded}
+use Rattle.blocks.specs.declared.Rounded.the-variants.{Class, Above}
+use Rattle.blocks.proofs.Rounding.{aligned-is, least-class}
+use Rattle.ledger.specs.Ledger.{Grant, grant, enter}
+use Rattle.heap_state.specs.Lists.{Memory, head, pop, splitDown}
+use Rattle.heap_state.specs.Sound.{Block, blk}
+use Rattle.heap_state.specs.State.{State}
+use Rattle.heap_core.specs.Deciding.{memory, granted, wanted, classFor, serving, withGrants, grantedFrom, granting}
+use Rattle.heap.specs.Outcome.{Alloc}
+use Rattle.heap_laws.specs.ListRules.{lists, first, ofClass, servingL, grantL}
+use Rattle.heap_laws.specs.Claims.{Healthy, Follows, servedBy, listsAfter, valueAfter}
+use Rattle.heap_laws.proofs.Shuffles.{same-bytes}
+use Rattle.heap_laws.proofs.Placing as placing
+use Rattle.heap_laws.proofs.Placing.{Placed, beside-rest}
+use Rattle.heap_laws.proofs.Free.{freeOf}
+use Rattle.heap_laws.proofs.Managing.{Managed, in-hand, reordered}
+use Rattle.heap_laws.proofs.Granting.{serving-is, Serves, serves, grant-managed}
+use Rattle.heap_laws.proofs.Adding.{not-either}
+use Rattle.heap_laws.proofs.Ledgers.{Row, Rows}
+use Rattle.heap_laws.proofs.Entries.{blocksOf, entered-blocks, entered-requests, entered-length, entered-rows}
+use Rattle.heap_laws.proofs.Sounds.{Held, lists-is}
+use Rattle.heap_laws.proofs.Keeping.{holds, kept-grants, granted-length, Right, does, judged}
+
+-- ---- the class of a request
+
+wanted-low : (r : Rounded) → 3 ≤ wanted r
+wanted-low (Class k) = omega arith
+wanted-low Above = omega arith
+
+pub class-low : (size align : ℕ) → 3 ≤ classFor size align
+class-low size align = wanted-low (roundedAligned size align)
+
+wanted-holds : (size align : ℕ) (r : Rounded) → rounded (max size align) ≡ r → wanted r < 33 → size ≤ 2 ^ wanted r
+wanted-holds size align (Class k) e h =
+    let l = least-class (max size align) k e in
+    let p : 2 ^ k ≤ 2 ^ max 3 k = pow-mono {i = k} {j = max 3 k} (omega arith) in
+    omega (arith, l .holds)
+wanted-holds size align Above e h = absurd (omega arith)
+
+-- a block of the class holds the request
+class-holds : (size align : ℕ) → classFor size align < 33 → size ≤ 2 ^ classFor size align
+class-holds size align h = wanted-holds size align (roundedAligned size align) (sym (aligned-is size align)) h
+
+module _ (st : State) (h : Healthy st) (k size : ℕ) (low : 3 ≤ k) (holds-it : size ≤ 2 ^ k) where
+  -- a block in hand beside the granted ones is entered
+  entered : {m : Memory} {ls : List (List ℕ)} (a : ℕ) → Managed (st .heap .order) (length (st .arena)) (st .heap .total) m ls (blk k a ∷ blocksOf (granted st)) →
+      st .heap .count < length (st .ledger) → Healthy (withGrants st m (enter (grant k size a) (granted st)) (st .heap .user + size) (st .heap .allocated + 2 ^ k))
+  entered {m} {ls} a g room = go (in-hand g)
+    where
+      go : Placed (st .heap .order) (length (st .arena) * 8) (blk k a ∷ (freeOf 0 ls ++ blocksOf (granted st))) →
+          Healthy (withGrants st m (enter (grant k size a) (granted st)) (st .heap .user + size) (st .heap .allocated + 2 ^ k))
+      go (placing.next f b p) =
+          let hd = holds st h in
+          let r = hd .ranges in
+          let row : Row (st .heap .order) k size a = record {
+            low = low;
+            high = f .high;
+            holds = holds-it;
+            short = omega (arith, f .inside, r .arena-high);
+            near = omega (arith, f .inside, r .arena-high);
+          } in
+          let s = entered-blocks k size a (granted st) in
+          kept-grants st h (reordered s g) (entered-rows k size a row (omega arith) (hd .rows) (beside-rest (freeOf 0 ls) (blocksOf (granted st)) b))
+          (omega (arith, entered-length k size a (granted st), granted-length st h))
+          (omega (arith, entered-requests k size a (granted st), hd .user))
+          (omega (arith, same-bytes s, hd .allocated))
+
+module _ (st : State) (h : Healthy st) (k size : ℕ) (low : 3 ≤ k) (holds-it : size ≤ 2 ^ k) (room : st .heap .count < length (st .ledger)) where
+  served : (j : ℕ) → Serves (st .heap .order - k) k j (lists (memory st)) → serving k st ≡ j →
+      Follows (first j (lists (memory st))) (grantL j k (lists (memory st))) (head k (splitDown (serving k st - k) k (memory st))) (grantedFrom k size st)
+  served j s e =
+      let g = grant-managed low s (holds st h .managed) in
+      let f : first j (lists (memory st)) ≡ s .block = ap (λ (l : List ℕ). getD l 0 0) (s .is) in
+      rw (e, g .0) (record { value-is = sym f; lists-are = lists-is (g .1); healthy = entered st h k size low holds-it (s .block) (g .1) room })
+
+pub granting-right : (st : State) → Healthy st → (size align : ℕ) → Right (valueAfter (Alloc size align) st) (listsAfter (Alloc size align) st) (granting size align st)
+unfolding granting
+granting-right st h size align =
+    let k : ℕ = classFor size align in
+    judged (not (isPowerOfTwo align)) BadAlign _
+    λ power. judged _ NoBlock _
+    λ block. judged _ NoRoom _
+    λ room.
+    let p = not-either (leb (st .heap .order) k) (leb 33 (serving k st)) block in
+    let high : k < st .heap .order = leb-false (st .heap .order) k (p .0) in
+    let below : serving k st < 33 = leb-false 33 (serving k st) (p .1) in
+    let r = holds st h .ranges in
+    let e : serving k st ≡ servedBy k st = serving-is (st .heap .order - k) k (holds st h .managed) in
+    does (served st h k size (class-low size align) (class-holds size align (omega (arith, r .order-high))) (leb-false (length (st .ledger)) (st .heap .count) room) (servedBy k st)
+    (serves (st .heap .order - k) k (lists (memory st)) (omega arith)) e)
