@@ -15,3 +15,4 @@ pub mod Sounds
 pub mod Keeping
 pub mod AddCalls
 pub mod GrantCalls
+pub mod ReleaseCalls
