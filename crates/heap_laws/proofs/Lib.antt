@@ -16,3 +16,4 @@ pub mod Keeping
 pub mod AddCalls
 pub mod GrantCalls
 pub mod ReleaseCalls
+pub mod Whole
