@@ -17,3 +17,5 @@ pub mod AddCalls
 pub mod GrantCalls
 pub mod ReleaseCalls
 pub mod Whole
+pub mod Foreign
+pub mod Made
