@@ -1,26 +1,25 @@
 -- Adding on a sound heap: the lists by the rules, and a sound heap. Assumes nothing.
 use mathlib.Core.Path.{_≡_, refl, subst}
 use mathlib.Core.Bool.{Bool, true, false, _&&_, _||_}
-use mathlib.Core.List.{List, [], _∷_, _++_}
-use Prim.Native.Nat.{ℕ, zero, suc, _+_, _-_, _*_, _/_, _%_, _≤_, _<_}
+use mathlib.Core.List.{List, _++_}
+use Prim.Native.Nat.{ℕ, _+_, _-_, _*_, _%_, _≤_, _<_}
 use native.Mathlib.Decide.{decLe}
 use native.Mathlib.Omega.{arith}
 use lib.Dec.{eqb, ltb}
 use lib.ListN.{length}
 use borrow.Author.Tests.{ltb-false, eqb-false, lt-ltb}
 use Rattle.answers.specs.declared.Refusal.the-variants.{BadRange, NullStart, Overlap}
-use Rattle.heap_state.specs.Lists.{Memory, pushAll}
+use Rattle.heap_state.specs.Lists.{pushAll}
 use Rattle.heap_state.specs.Sound.{Block, allBlocks, freeFrom}
 use Rattle.heap_state.specs.State.{State}
-use Rattle.heap_core.specs.Deciding.{Decision, done, Check, refuse, judge, memory, bytes, top, granted, roundUp, roundDown, meets, withLists, adding}
-use Rattle.heap_laws.specs.ListRules.{listsFrom, lists, addL}
-use Rattle.heap_laws.specs.Claims.{Healthy, Follows, afterAdding}
-use Rattle.heap_laws.proofs.Free.{freeOf}
+use Rattle.heap_core.specs.Deciding.{memory, bytes, top, granted, roundUp, roundDown, meets, adding}
+use Rattle.heap_laws.specs.ListRules.{lists, addL}
+use Rattle.heap_laws.specs.Claims.{Healthy, afterAdding}
 use Rattle.heap_laws.proofs.Managing.{Managed}
-use Rattle.heap_laws.proofs.Adding.{Clear, clear, not-either, Range, add-managed}
+use Rattle.heap_laws.proofs.Adding.{Clear, clear, not-either, add-managed}
 use Rattle.heap_laws.proofs.Tested.{free-is}
 use Rattle.heap_laws.proofs.Entries.{blocksOf}
-use Rattle.heap_laws.proofs.Sounds.{Held, lists-is}
+use Rattle.heap_laws.proofs.Sounds.{lists-is}
 use Rattle.heap_laws.proofs.Keeping.{holds, kept-ledger, Right, does, judged}
 
 not-both : (a b : Bool) → a && b ≡ false → b ≡ true → a ≡ false

@@ -1,13 +1,12 @@
 -- Adding a range that no block meets: its pieces are pushed, as the rules of the lists say. Assumes nothing.
-use mathlib.Core.Path.{_≡_, refl, sym, ap, _∙_}
+use mathlib.Core.Path.{_≡_, refl, ap, _∙_}
 use mathlib.Core.Bool.{Bool, true, false, _&&_, _||_}
 use mathlib.Core.List.{List, [], _∷_, _++_}
 use Prim.Native.Nat.{ℕ, zero, suc, _+_, _-_, _*_, _%_, _^_, _≤_, _<_}
 use native.Mathlib.Omega.{arith}
 use lib.Pow.{pow-pos}
 use lib.Dec.{eqb, ltb}
-use lib.ListN.{length}
-use borrow.Author.Tests.{ne-eqb, lt-ltb, ltb-true, ltb-false}
+use borrow.Author.Tests.{ne-eqb, lt-ltb, ltb-false}
 use Rattle.blocks.specs.Blocks.{pieceSize, sizeClass}
 use Rattle.blocks.specs.Laws.{Piece}
 use Rattle.blocks.proofs.Pieces.{piece}
@@ -18,7 +17,7 @@ use Rattle.heap_state.specs.Sound.{Block, blk}
 use Rattle.heap_core.specs.Deciding.{meets}
 use Rattle.heap_laws.specs.ListRules.{pushL, addL}
 use Rattle.heap_laws.proofs.Shuffles.{_~_, same, keep, swap, then, back, bring}
-use Rattle.heap_laws.proofs.Placing.{Fits, Apart, under, over, Beside, none, next}
+use Rattle.heap_laws.proofs.Placing.{Fits, under, over, Beside, none, next}
 use Rattle.heap_laws.proofs.Free.{freeOf}
 use Rattle.heap_laws.proofs.Managing.{Managed, picked-up, push-managed, push-shuffle}
 

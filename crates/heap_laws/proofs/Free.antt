@@ -1,10 +1,10 @@
 -- The free blocks of all lists: one more or one less, and words that are no node's. Assumes nothing.
-use mathlib.Core.Path.{_≡_, refl, sym}
+use mathlib.Core.Path.{_≡_}
 use mathlib.Core.List.{List, [], _∷_, _++_, map}
 use Prim.Native.Nat.{ℕ, zero, suc, _+_, _*_, _/_, _^_, _≤_, _<_}
 use native.Mathlib.Omega.{arith}
 use lib.Pow.{pow-mono}
-use lib.ListN.{length, getD, set}
+use lib.ListN.{length, set}
 use Rattle.blocks.proofs.Powers.{multiple-le}
 use Rattle.linked_list.specs.Chains.{Away, Within}
 use Rattle.heap_state.specs.Sound.{Block, blk}

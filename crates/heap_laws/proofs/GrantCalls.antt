@@ -1,7 +1,7 @@
 -- Granting on a sound heap: the first block of the class that serves, the lists by the rules, and a sound heap. Assumes nothing.
-use mathlib.Core.Path.{_≡_, refl, sym, ap, _∙_}
-use mathlib.Core.Bool.{Bool, true, false, not, _||_}
-use mathlib.Core.List.{List, [], _∷_, _++_}
+use mathlib.Core.Path.{_≡_, sym, ap}
+use mathlib.Core.Bool.{not}
+use mathlib.Core.List.{List, _∷_, _++_}
 use Prim.Native.Nat.{ℕ, _+_, _-_, _*_, _^_, _≤_, _<_, max}
 use native.Mathlib.Omega.{arith}
 use lib.Pow.{pow-mono}
@@ -13,13 +13,13 @@ use Rattle.blocks.specs.Blocks.{rounded, roundedAligned, isPowerOfTwo}
 use Rattle.blocks.specs.declared.Rounded.{Rounded}
 use Rattle.blocks.specs.declared.Rounded.the-variants.{Class, Above}
 use Rattle.blocks.proofs.Rounding.{aligned-is, least-class}
-use Rattle.ledger.specs.Ledger.{Grant, grant, enter}
-use Rattle.heap_state.specs.Lists.{Memory, head, pop, splitDown}
-use Rattle.heap_state.specs.Sound.{Block, blk}
+use Rattle.ledger.specs.Ledger.{grant, enter}
+use Rattle.heap_state.specs.Lists.{Memory, head, splitDown}
+use Rattle.heap_state.specs.Sound.{blk}
 use Rattle.heap_state.specs.State.{State}
 use Rattle.heap_core.specs.Deciding.{memory, granted, wanted, classFor, serving, withGrants, grantedFrom, granting}
 use Rattle.heap.specs.Outcome.{Alloc}
-use Rattle.heap_laws.specs.ListRules.{lists, first, ofClass, servingL, grantL}
+use Rattle.heap_laws.specs.ListRules.{lists, first, grantL}
 use Rattle.heap_laws.specs.Claims.{Healthy, Follows, servedBy, listsAfter, valueAfter}
 use Rattle.heap_laws.proofs.Shuffles.{same-bytes}
 use Rattle.heap_laws.proofs.Placing as placing
@@ -28,9 +28,9 @@ use Rattle.heap_laws.proofs.Free.{freeOf}
 use Rattle.heap_laws.proofs.Managing.{Managed, in-hand, reordered}
 use Rattle.heap_laws.proofs.Granting.{serving-is, Serves, serves, grant-managed}
 use Rattle.heap_laws.proofs.Adding.{not-either}
-use Rattle.heap_laws.proofs.Ledgers.{Row, Rows}
+use Rattle.heap_laws.proofs.Ledgers.{Row}
 use Rattle.heap_laws.proofs.Entries.{blocksOf, entered-blocks, entered-requests, entered-length, entered-rows}
-use Rattle.heap_laws.proofs.Sounds.{Held, lists-is}
+use Rattle.heap_laws.proofs.Sounds.{lists-is}
 use Rattle.heap_laws.proofs.Keeping.{holds, kept-grants, granted-length, Right, does, judged}
 
 -- ---- the class of a request

@@ -2,14 +2,14 @@
 use mathlib.Core.Path.{_≡_, refl, sym, ap, _∙_}
 use mathlib.Core.Bool.{Bool, true, false}
 use mathlib.Core.List.{List, [], _∷_}
-use Prim.Native.Nat.{ℕ, zero, suc, _+_, _-_, _*_, _^_, _≤_, _<_}
+use Prim.Native.Nat.{ℕ, zero, suc, _+_, _-_, _^_, _≤_, _<_}
 use native.Mathlib.Omega.{arith}
 use lib.Dec.{eqb}
-use lib.ListN.{length, getD, set}
+use lib.ListN.{length, getD}
 use lib.Seq.{getD-set-same}
-use borrow.Author.Tests.{eq-eqb, ne-eqb}
+use borrow.Author.Tests.{ne-eqb}
 use Rattle.linked_list.specs.Chains.{Chain}
-use Rattle.heap_state.specs.Lists.{Memory, head, push, pop, split, splitDown, firstClass}
+use Rattle.heap_state.specs.Lists.{Memory, head, pop, split, splitDown, firstClass}
 use Rattle.heap_state.specs.Sound.{Block, blk}
 use Rattle.heap_laws.specs.ListRules.{ofClass, first, pushL, popL, splitL, splitDownL, servingL, grantL}
 use Rattle.heap_laws.proofs.Managing.{Managed, push-managed, class-below}

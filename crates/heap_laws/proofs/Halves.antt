@@ -1,7 +1,7 @@
 -- A block in hand is two halves in hand, and two buddies in hand are one block. Assumes nothing.
-use mathlib.Core.Path.{_≡_, sym, _∙_}
-use mathlib.Core.List.{List, [], _∷_, _++_}
-use Prim.Native.Nat.{ℕ, suc, _+_, _*_, _/_, _%_, _^_, _≤_, _<_, min}
+use mathlib.Core.Path.{_≡_}
+use mathlib.Core.List.{List, _∷_}
+use Prim.Native.Nat.{ℕ, suc, _+_, _/_, _%_, _^_, _≤_, _<_, min}
 use native.Mathlib.Omega.{arith}
 use lib.Pow.{pow-pos}
 use Rattle.blocks.specs.Blocks.{buddyOf}
@@ -9,8 +9,8 @@ use Rattle.blocks.specs.Laws.{Buddies, upper, lower}
 use Rattle.blocks.proofs.Powers.{multiple, multiple-le, quotient}
 use Rattle.blocks.proofs.Buddies.{pair}
 use Rattle.heap_state.specs.Lists.{Memory}
-use Rattle.heap_state.specs.Sound.{Block, blk, bytesOf}
-use Rattle.heap_laws.proofs.Shuffles.{_~_, keep, swap, then, back, bring, same-bytes}
+use Rattle.heap_state.specs.Sound.{Block, blk}
+use Rattle.heap_laws.proofs.Shuffles.{keep, swap, then, back, bring, same-bytes}
 use Rattle.heap_laws.proofs.Placing.{Fits, Apart, under, over, Beside, Placed, none, next, placed-shuffled}
 use Rattle.heap_laws.proofs.Free.{freeOf}
 use Rattle.heap_laws.proofs.Managing.{Managed, in-hand, regrouped, reordered}

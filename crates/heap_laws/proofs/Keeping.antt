@@ -1,24 +1,22 @@
 -- The states that calls leave are sound where their memory holds lists and their grants stand in order. Assumes nothing.
 use mathlib.Core.Path.{_≡_, refl, sym, ap, _∙_}
 use mathlib.Core.Bool.{Bool, true, false}
-use mathlib.Core.List.{List, [], _∷_, _++_, map}
-use Prim.Native.Nat.{ℕ, _+_, _-_, _*_, _≤_, _<_, min}
+use mathlib.Core.List.{List, map}
+use Prim.Native.Nat.{ℕ, _≤_}
 use native.Mathlib.Omega.{arith}
-use lib.ListN.{length, take, drop, length-map, length-take}
-use Rattle.words.specs.Words.{zerosb}
+use lib.ListN.{length, take, length-map, length-take}
 use Rattle.answers.specs.declared.Refusal.{Refusal}
 use Rattle.ledger.specs.Ledger.{Grant, grants, grantOf, wordOf, ledgerWords, recordsb, ascendingb}
 use Rattle.heap_state.specs.Lists.{Memory}
 use Rattle.heap_state.specs.Sound.{Block, bytesOf, requests}
-use Rattle.heap_state.specs.State.{State, isSound}
-use Rattle.heap_state.proofs.Facts.{Ranges, Sound, sound-fact}
-use Rattle.heap_core.specs.Deciding.{Decision, refused, done, memory, granted, withLists, withGrants}
-use Rattle.heap_laws.specs.ListRules.{lists}
+use Rattle.heap_state.specs.State.{State}
+use Rattle.heap_state.proofs.Facts.{Sound, sound-fact}
+use Rattle.heap_core.specs.Deciding.{Decision, refused, done, granted, withLists, withGrants}
 use Rattle.heap_laws.specs.Claims.{Healthy, Follows}
 use Rattle.heap_laws.proofs.Managing.{Managed}
 use Rattle.heap_laws.proofs.Ledgers.{Rows, records-true, ascending-true, words-length, words-zeros, words-taken, words-grants}
 use Rattle.heap_laws.proofs.Entries.{blocksOf}
-use Rattle.heap_laws.proofs.Sounds.{Held, held, sounds, lists-is}
+use Rattle.heap_laws.proofs.Sounds.{Held, held, sounds}
 
 own-words : {order n total : ℕ} {m : Memory} {ls : List (List ℕ)} {others : List Block} → Managed order n total m ls others → Managed order (length (m .arena)) total m ls others
 own-words g = rw (g .words) g

@@ -1,14 +1,12 @@
 -- A heap that was just made is sound. Assumes nothing.
 use mathlib.Core.Path.{_≡_, refl}
-use mathlib.Core.Bool.{Bool, true, false, _&&_}
-use mathlib.Core.List.{List, [], _∷_}
-use Prim.Native.Nat.{ℕ, zero, suc, _≤_, _<_}
+use mathlib.Core.Bool.{Bool, true, false}
+use mathlib.Core.List.{List, []}
+use Prim.Native.Nat.{ℕ, zero, suc, _≤_}
 use native.Mathlib.Omega.{arith}
-use lib.Dec.{leb}
 use lib.ListN.{length, getD, replicate, length-replicate}
 use borrow.Author.Tests.{le-leb}
 use Rattle.words.specs.Words.{zerosb}
-use Rattle.words.proofs.Tests.{join}
 use Rattle.linked_list.specs.Chains.{Chain}
 use Rattle.heap_state.specs.Sound.{lengthsb, orderb, rangesb}
 use Rattle.heap_state.specs.State.{State, state, freshHeap, madeIf, making}

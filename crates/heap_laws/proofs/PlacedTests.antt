@@ -1,15 +1,13 @@
 -- From the tests of a heap's blocks to their places, and back. Assumes nothing.
-use mathlib.Core.Path.{_≡_, refl, sym, ap, _∙_}
+use mathlib.Core.Path.{_≡_, refl}
 use mathlib.Core.Logic.{_⊎_, inl, inr}
-use mathlib.Core.Bool.{Bool, true, false, _&&_, _||_}
+use mathlib.Core.Bool.{true, _&&_}
 use mathlib.Core.List.{List, [], _∷_, _++_, map}
-use Prim.Native.Nat.{ℕ, zero, suc, _+_, _%_, _^_, _≤_, _<_}
-use native.Mathlib.Omega.{arith}
+use Prim.Native.Nat.{ℕ, zero, suc, _+_, _%_, _^_}
 use lib.Dec.{eqb, leb, ltb}
 use lib.ListN.{length}
 use borrow.Author.Tests.{eqb-true, eq-eqb, leb-true, le-leb, ltb-true, lt-ltb}
 use Rattle.words.proofs.Tests.{both, join}
-use Rattle.linked_list.specs.Links.{nodes}
 use Rattle.linked_list.proofs.Steps.{nodes-end}
 use Rattle.heap_state.specs.Lists.{Memory, head, list}
 use Rattle.heap_state.specs.Sound.{Block, blk, placedb, apart, apartFrom, disjointb}

@@ -1,7 +1,7 @@
 -- Blocks that are placed as a heap's are, any two of them apart, in any order. Assumes nothing.
 use mathlib.Core.Path.{_≡_}
 use mathlib.Core.List.{List, [], _∷_, _++_}
-use Prim.Native.Nat.{ℕ, suc, _+_, _%_, _^_, _≤_, _<_}
+use Prim.Native.Nat.{ℕ, _+_, _%_, _^_, _≤_, _<_}
 use Rattle.heap_state.specs.Sound.{Block, blk}
 use Rattle.heap_laws.proofs.Shuffles.{_~_, same, keep, swap, then}
 

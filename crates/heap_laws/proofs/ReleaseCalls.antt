@@ -1,8 +1,8 @@
 -- Releasing and zero fill on a sound heap: the lists and the count by the rules, and a sound heap. Assumes nothing.
-use mathlib.Core.Path.{_≡_, refl, sym, ap, _∙_}
-use mathlib.Core.Bool.{Bool, true, false, not}
+use mathlib.Core.Path.{_≡_, refl, ap, _∙_}
+use mathlib.Core.Bool.{true, not}
 use mathlib.Core.List.{List, [], _∷_, _++_, append-assoc}
-use Prim.Native.Nat.{ℕ, zero, suc, _+_, _-_, _*_, _/_, _%_, _^_, _≤_, _<_}
+use Prim.Native.Nat.{ℕ, suc, _+_, _-_, _*_, _/_, _%_, _^_, _≤_}
 use native.Mathlib.Omega.{arith}
 use lib.ListN.{length, take, drop, set, replicate, length-replicate}
 use lib.Seq.{sets, sets-eq}
@@ -10,23 +10,23 @@ use borrow.Author.Tests.{not-false}
 use Rattle.answers.specs.declared.Refusal.the-variants.{BadAlign, NotGranted}
 use Rattle.blocks.specs.Blocks.{isPowerOfTwo}
 use Rattle.blocks.proofs.Powers.{multiple, multiple-le}
-use Rattle.ledger.specs.Ledger.{Grant, strike, some, same}
+use Rattle.ledger.specs.Ledger.{strike, some, same}
 use Rattle.heap_state.specs.Lists.{Memory, release}
-use Rattle.heap_state.specs.Sound.{Block, blk, bytesOf, requests}
+use Rattle.heap_state.specs.Sound.{Block, blk}
 use Rattle.heap_state.specs.State.{State}
-use Rattle.heap_core.specs.Deciding.{memory, top, granted, classFor, withGrants, withLists, releasing, zeroing, notGranted}
+use Rattle.heap_core.specs.Deciding.{memory, top, granted, classFor, withGrants, releasing, zeroing, notGranted}
 use Rattle.heap.specs.Outcome.{Dealloc, ZeroFill}
 use Rattle.heap_laws.specs.ListRules.{lists}
 use Rattle.heap_laws.specs.Claims.{Healthy, Follows, Word, afterRelease, listsAfter, valueAfter}
-use Rattle.heap_laws.proofs.Shuffles.{_~_, back, same-bytes}
+use Rattle.heap_laws.proofs.Shuffles.{back, same-bytes}
 use Rattle.heap_laws.proofs.Placing as placing
-use Rattle.heap_laws.proofs.Placing.{Fits, Placed, placed-rest}
+use Rattle.heap_laws.proofs.Placing.{Placed, placed-rest}
 use Rattle.heap_laws.proofs.Free.{freeOf}
 use Rattle.heap_laws.proofs.Managing.{Managed, in-hand, reordered, store-managed}
 use Rattle.heap_laws.proofs.Releasing.{Freed, release-managed}
-use Rattle.heap_laws.proofs.Ledgers.{Row, Rows}
+use Rattle.heap_laws.proofs.Ledgers.{Row}
 use Rattle.heap_laws.proofs.Entries.{blocksOf, Struck, struck, struck-rows, struck-length, row-of}
-use Rattle.heap_laws.proofs.Sounds.{Held, lists-is}
+use Rattle.heap_laws.proofs.Sounds.{lists-is}
 use Rattle.heap_laws.proofs.Keeping.{holds, kept-ledger, kept-grants, granted-length, Right, does, judged}
 
 -- a granted block in hand, and what the ledger says of it

@@ -1,11 +1,11 @@
 -- A release over the words does what the rules of the lists say, and compares as many nodes. Assumes nothing.
-use mathlib.Core.Path.{_≡_, refl, sym, ap, _∙_}
+use mathlib.Core.Path.{_≡_, refl, ap, _∙_}
 use mathlib.Core.Bool.{Bool, true, false}
 use mathlib.Core.List.{List, [], _∷_}
-use Prim.Native.Nat.{ℕ, zero, suc, _+_, _-_, _*_, _^_, _≤_, _<_, min}
+use Prim.Native.Nat.{ℕ, zero, suc, _+_, _-_, _*_, _≤_, _<_, min}
 use native.Mathlib.Omega.{arith}
 use lib.Pow.{pow-pos}
-use lib.ListN.{length, set, length-set}
+use lib.ListN.{length, length-set}
 use lib.Seq.{getD-set-same}
 use borrow.Author.Tests.{eq-eqb, ne-eqb}
 use Rattle.blocks.specs.Blocks.{buddyOf}
@@ -13,11 +13,11 @@ use Rattle.blocks.specs.Laws.{Buddies, upper, lower}
 use Rattle.blocks.proofs.Buddies.{pair}
 use Rattle.linked_list.specs.Links.{compared}
 use Rattle.linked_list.specs.Chains.{without}
-use Rattle.heap_state.specs.Lists.{Memory, list, push, pop, remove, stands, Released, joinUp, release}
+use Rattle.heap_state.specs.Lists.{Memory, push, pop, remove, stands, Released, joinUp, release}
 use Rattle.heap_state.specs.Sound.{Block, blk}
 use Rattle.heap_laws.specs.ListRules.{ofClass, pushL, popL, removeL, ReleasedL, joinUpL, releaseL}
 use Rattle.heap_laws.proofs.Placing.{Fits, Placed, next}
-use Rattle.heap_laws.proofs.Managing.{Managed, in-hand, push-managed, class-below, list-is}
+use Rattle.heap_laws.proofs.Managing.{Managed, in-hand, push-managed, list-is}
 use Rattle.heap_laws.proofs.Taking.{pop-managed, remove-managed}
 use Rattle.heap_laws.proofs.Halves.{join-managed}
 use Rattle.heap_laws.proofs.Granting.{pushed-first}

@@ -1,7 +1,6 @@
 -- Lists of blocks in another order. Assumes nothing.
 use mathlib.Core.Path.{_≡_, refl, _∙_}
 use mathlib.Core.List.{List, [], _∷_, _++_}
-use Prim.Native.Nat.{ℕ, _+_, _^_}
 use native.Mathlib.Omega.{arith}
 use Rattle.heap_state.specs.Sound.{Block, blk, bytesOf}
 

@@ -1,26 +1,24 @@
 -- What a sound heap holds: its lists, its blocks and its grants; and a heap that holds them is sound. Assumes nothing.
 use mathlib.Core.Path.{_≡_, refl, sym, ap, _∙_}
 use mathlib.Core.Logic.{_⊎_, inl, inr}
-use mathlib.Core.Bool.{Bool, true, _&&_}
+use mathlib.Core.Bool.{true, _&&_}
 use mathlib.Core.List.{List, [], _∷_, _++_}
-use Prim.Native.Nat.{ℕ, zero, suc, _+_, _-_, _*_, _≤_, _<_}
+use Prim.Native.Nat.{ℕ, suc, _+_, _-_, _*_}
 use native.Mathlib.Decide.{decLe}
 use native.Mathlib.Omega.{arith}
 use lib.Dec.{eqb}
-use lib.ListN.{length, take, drop, getD, List·getD-eq-default}
+use lib.ListN.{length, take, drop, List·getD-eq-default}
 use lib.Seq.{ext-getD}
 use borrow.Author.Tests.{eqb-true, eq-eqb}
 use Rattle.words.specs.Words.{zerosb}
 use Rattle.words.proofs.Tests.{both, join}
 use Rattle.ledger.specs.Ledger.{Grant, recordsb, ascendingb}
-use Rattle.linked_list.specs.Links.{nodes}
 use Rattle.linked_list.specs.Chains.{Chain}
 use Rattle.linked_list.proofs.Counting.{chain-few}
-use Rattle.heap_state.specs.declared.Heap.{Heap}
 use Rattle.heap_state.specs.Lists.{Memory, head, list}
 use Rattle.heap_state.specs.Sound.{Block, bytesOf, requests, placedb, disjointb, freeFrom, countersb, reaches}
 use Rattle.heap_state.specs.State.{State, isSound}
-use Rattle.heap_state.proofs.Facts.{Ranges, Sound, sound-fact, sound-true}
+use Rattle.heap_state.proofs.Facts.{Ranges, Sound, sound-true}
 use Rattle.heap_core.specs.Deciding.{memory, granted}
 use Rattle.heap_laws.specs.ListRules.{listsFrom, lists, ofClass}
 use Rattle.heap_laws.proofs.Placing.{placed-front}

@@ -2,9 +2,9 @@
 use mathlib.Core.Path.{_≡_, refl, sym, ap, _∙_}
 use mathlib.Core.Bool.{true}
 use mathlib.Core.List.{List, [], _∷_, _++_}
-use Prim.Native.Nat.{ℕ, _*_, _/_, _≤_, _<_}
+use Prim.Native.Nat.{ℕ, _/_, _<_}
 use native.Mathlib.Omega.{arith}
-use lib.ListN.{length, getD, set, length-set}
+use lib.ListN.{length, set, length-set}
 use lib.Seq.{getD-set-other, set-getD, append-snoc}
 use borrow.Author.Tests.{ltb-true}
 use Rattle.linked_list.specs.Links.{position, linkTo, removed, Links}
@@ -13,7 +13,7 @@ use Rattle.linked_list.specs.declared.Previous.the-variants.{Head, Word}
 use Rattle.linked_list.specs.Chains.{Chain, Away, Apart, without}
 use Rattle.linked_list.proofs.Removing.{unlink-frame}
 use Rattle.linked_list.proofs.Positions.{Split, found-splits, found-removed}
-use Rattle.heap_state.specs.Lists.{Memory, head, list, withList, pop, remove, stands}
+use Rattle.heap_state.specs.Lists.{Memory, head, withList, pop, remove, stands}
 use Rattle.heap_state.specs.Sound.{Block, blk}
 use Rattle.heap_laws.specs.ListRules.{ofClass, popL, removeL}
 use Rattle.heap_laws.proofs.Shuffles.{_~_, then, back, bring, after, same-bytes}

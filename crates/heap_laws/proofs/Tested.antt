@@ -1,5 +1,5 @@
 -- From the tests of a heap's heads and walks to its lists, and back. Assumes nothing.
-use mathlib.Core.Path.{_≡_, refl, sym, ap, _∙_}
+use mathlib.Core.Path.{_≡_, refl, ap}
 use mathlib.Core.Logic.{_⊎_, inl, inr}
 use mathlib.Core.Bool.{Bool, true, false, _&&_, _||_}
 use mathlib.Core.List.{List, [], _∷_, _++_, map}
@@ -11,7 +11,7 @@ use borrow.Author.Tests.{eqb-true, eq-eqb, ne-eqb, leb-true, le-leb, ltb-true, l
 use Rattle.words.proofs.Tests.{both, join}
 use Rattle.linked_list.specs.Links.{next, nodes}
 use Rattle.linked_list.specs.Chains.{Chain}
-use Rattle.heap_state.specs.Lists.{Memory, head, list}
+use Rattle.heap_state.specs.Lists.{Memory, list}
 use Rattle.heap_state.specs.Sound.{Block, blk, headsb, reaches, listsb, freeFrom}
 use Rattle.heap_laws.specs.ListRules.{listsFrom, ofClass}
 use Rattle.heap_laws.proofs.Free.{freeOf}

@@ -1,32 +1,20 @@
 -- Every call on a sound heap does what the rules of the lists say and leaves a sound heap; so do making and stores into granted blocks. Assumes nothing.
-use mathlib.Core.Path.{_≡_, refl, sym, ap, _∙_}
-use mathlib.Core.Bool.{Bool, true, false, _&&_}
-use mathlib.Core.List.{List, [], _∷_, List·Memᴰ, List·Memᴰ·head, List·Memᴰ·tail}
-use Prim.Native.Nat.{ℕ, zero, suc, _+_, _≤_, _<_}
+use mathlib.Core.Path.{_≡_, refl}
+use mathlib.Core.Bool.{Bool, true, false}
+use mathlib.Core.List.{List}
+use Prim.Native.Nat.{ℕ, _+_, _<_}
 use native.Mathlib.Omega.{arith}
-use lib.Dec.{eqb}
-use lib.ListN.{length, getD, set, replicate, length-replicate}
-use borrow.Author.Tests.{eq-eqb}
-use Rattle.words.specs.Words.{zerosb}
 use Rattle.answers.specs.declared.Refusal.{Refusal}
 use Rattle.answers.specs.declared.Refusal.the-variants.{BadOrder, BadSize, BadState, BadRange, NullStart, Overlap, BadAlign, Misaligned, NoBlock, NotGranted, NoRoom}
 use Rattle.answers.specs.Paper.{numberOf}
-use Rattle.ledger.specs.Ledger.{Grant, grant, some, same}
-use Rattle.linked_list.specs.Chains.{Chain}
-use Rattle.heap_state.specs.Sound.{lengthsb, orderb, rangesb}
-use Rattle.heap_state.specs.State.{State, state, isSound, Outcome, freshHeap, madeIf, making}
-use Rattle.heap_state.proofs.Facts.{Ranges, ranges-fact}
-use Rattle.heap_core.specs.Deciding.{Decision, refused, done, carried, granted, memory}
+use Rattle.heap_state.specs.State.{State, state, isSound}
+use Rattle.heap_core.specs.Deciding.{Decision, refused, done, carried}
 use Rattle.heap.specs.Outcome.{Call, Init, AddToHeap, Alloc, Dealloc, ZeroFill, StatsAllocUser, StatsAllocActual, StatsTotalBytes, decide, outcome}
-use Rattle.heap_laws.specs.ListRules.{lists}
-use Rattle.heap_laws.specs.Claims.{Healthy, Follows, valueAfter, listsAfter, Word, stored, Undisturbed}
-use Rattle.heap_laws.proofs.Placing as placing
-use Rattle.heap_laws.proofs.Managing.{Managed}
-use Rattle.heap_laws.proofs.Sounds.{sounds, lists-is}
-use Rattle.heap_laws.proofs.Keeping.{kept-ledger, Right, refuses, does}
+use Rattle.heap_laws.specs.Claims.{Healthy, Follows, valueAfter, listsAfter}
+use Rattle.heap_laws.proofs.Keeping.{Right, refuses, does}
 use Rattle.heap_laws.proofs.AddCalls.{adding-right}
 use Rattle.heap_laws.proofs.GrantCalls.{granting-right}
-use Rattle.heap_laws.proofs.ReleaseCalls.{releasing-right, zeroing-right, word-stored}
+use Rattle.heap_laws.proofs.ReleaseCalls.{releasing-right, zeroing-right}
 
 -- ---- every call
 

@@ -4,7 +4,7 @@ use mathlib.Core.Bool.{true}
 use mathlib.Core.List.{List}
 use Prim.Native.Nat.{ℕ, _+_, _-_, _*_, _^_, _≤_}
 use lib.ListN.{length, set}
-use Rattle.heap_state.specs.State.{State, isSound, Outcome}
+use Rattle.heap_state.specs.State.{State, isSound}
 use Rattle.heap_core.specs.Deciding.{memory, top, roundUp, roundDown, classFor}
 use Rattle.heap.specs.Outcome.{Call, Init, AddToHeap, Alloc, Dealloc, ZeroFill, StatsAllocUser, StatsAllocActual, StatsTotalBytes}
 use Rattle.heap_laws.specs.ListRules.{lists, first, servingL, grantL, ReleasedL, releaseL, addL}

@@ -1,5 +1,5 @@
 -- The rules of the lists, from docs/RULES.md, "The heap over an arena", over the lists themselves: one list of addresses for each of the 33 classes.
-use mathlib.Core.Bool.{Bool, true, false}
+use mathlib.Core.Bool.{true, false}
 use mathlib.Core.List.{List, [], _∷_}
 use Prim.Native.Nat.{ℕ, zero, suc, _+_, _-_, _^_, min}
 use lib.Dec.{eqb}
