@@ -1,12 +1,11 @@
--- A grant put into the ledger or struck out of it: its order, its blocks and its sums. Assumes nothing.
-use mathlib.Core.Path.{_≡_, refl, ap}
+-- A grant put into the ledger or struck out of it: the others stay, in their order. Assumes nothing.
+use mathlib.Core.Path.{_≡_, refl, ap, _∙_, subst}
 use mathlib.Core.Bool.{Bool, true, false, _&&_}
 use mathlib.Core.List.{List, [], _∷_, map}
-use Prim.Native.Nat.{ℕ, suc, _+_, _≤_}
+use Prim.Native.Nat.{ℕ, suc, _≤_}
 use native.Mathlib.Omega.{arith}
 use lib.Pow.{pow-pos}
 use lib.Dec.{eqb, ltb}
-use lib.ListN.{length}
 use borrow.Author.Tests.{ltb-true, ltb-false, eqb-true}
 use Rattle.words.proofs.Tests.{both}
 use Rattle.ledger.specs.Ledger as ledger
@@ -20,32 +19,22 @@ use Rattle.heap_laws.proofs.Ledgers.{Row, Rows, none, next}
 abbrev pub blocksOf : List Grant → List Block
 blocksOf gs = map blockOf gs
 
+pub same-requests : {gs hs : List Grant} → gs ~ hs → requests gs ≡ requests hs
+same-requests same = refl
+same-requests (keep (grant k n a) r) = omega (arith, same-requests r)
+same-requests (swap (grant k n a) (grant j m b)) = omega arith
+same-requests (then r s) = same-requests r ∙ same-requests s
+
 -- ---- entering
 
 module _ (k n a : ℕ) where
-  pub entered-blocks : (gs : List Grant) → (blk k a ∷ blocksOf gs) ~ blocksOf (enter (grant k n a) gs)
-  entered-blocks [] = same
-  entered-blocks (grant j m b ∷ gs) = go (ltb a b) refl (entered-blocks gs)
+  pub entered : (gs : List Grant) → (grant k n a ∷ gs) ~ enter (grant k n a) gs
+  entered [] = same
+  entered (grant j m b ∷ gs) = go (ltb a b) refl (entered gs)
     where
-      go : (t : Bool) → ltb a b ≡ t → (blk k a ∷ blocksOf gs) ~ blocksOf (enter (grant k n a) gs) → (blk k a ∷ blk j b ∷ blocksOf gs) ~ blocksOf (enter (grant k n a) (grant j m b ∷ gs))
+      go : (t : Bool) → ltb a b ≡ t → (grant k n a ∷ gs) ~ enter (grant k n a) gs → (grant k n a ∷ grant j m b ∷ gs) ~ enter (grant k n a) (grant j m b ∷ gs)
       go true e rest = rw (e, enter) same
-      go false e rest = rw (e, enter) (then (swap (blk k a) (blk j b)) (keep (blk j b) rest))
-
-  pub entered-requests : (gs : List Grant) → requests (enter (grant k n a) gs) ≡ n + requests gs
-  entered-requests [] = refl
-  entered-requests (grant j m b ∷ gs) = go (ltb a b) refl (entered-requests gs)
-    where
-      go : (t : Bool) → ltb a b ≡ t → requests (enter (grant k n a) gs) ≡ n + requests gs → requests (enter (grant k n a) (grant j m b ∷ gs)) ≡ n + (m + requests gs)
-      go true e rest = rw (e, enter)
-      go false e rest = rw (e, enter) (omega arith)
-
-  pub entered-length : (gs : List Grant) → length (enter (grant k n a) gs) ≡ suc (length gs)
-  entered-length [] = refl
-  entered-length (grant j m b ∷ gs) = go (ltb a b) refl (entered-length gs)
-    where
-      go : (t : Bool) → ltb a b ≡ t → length (enter (grant k n a) gs) ≡ suc (length gs) → length (enter (grant k n a) (grant j m b ∷ gs)) ≡ suc (suc (length gs))
-      go true e rest = rw (e, enter)
-      go false e rest = rw (e, enter) (ap suc rest)
+      go false e rest = rw (e, enter) (then (swap (grant k n a) (grant j m b)) (keep (grant j m b) rest))
 
   after-it : (j b : ℕ) → Apart (blk k a) (blk j b) → b ≤ a → suc b ≤ a
   after-it j b (under h) l = omega (arith, pow-pos k)
@@ -62,13 +51,6 @@ module _ (k n a : ℕ) where
 
 -- ---- striking
 
--- a grant with that class, request and address
-same-fact : (k n a j m b : ℕ) → ledger.same k n a (grant j m b) ≡ true → (j ≡ k) × (m ≡ n) × (b ≡ a)
-same-fact k n a j m b e =
-    let p = both (eqb j k && eqb m n) (eqb b a) e in
-    let q = both (eqb j k) (eqb m n) (p .0) in
-    (eqb-true j k (q .0), eqb-true m n (q .1), eqb-true b a (p .1))
-
 lower-rows : {order floor floor′ : ℕ} {gs : List Grant} → floor′ ≤ floor → Rows order floor gs → Rows order floor′ gs
 lower-rows l none = none
 lower-rows {floor′} l (next {a} r h rest) = let g : floor′ ≤ a = omega arith in next r g rest
@@ -81,56 +63,48 @@ struck-rows {order} {floor} p (next {k} {n} {a} {gs} r h rest) = go (p (grant k 
     go true e ih = rw (e, strike) (lower-rows (omega arith) ih)
     go false e ih = rw (e, strike) (next r h ih)
 
-pub struck-length : (p : Grant → Bool) (gs : List Grant) → length (strike p gs) ≤ length gs
-struck-length p [] = omega arith
-struck-length p (g ∷ gs) = go (p g) refl (struck-length p gs)
-  where
-    go : (t : Bool) → p g ≡ t → length (strike p gs) ≤ length gs → length (strike p (g ∷ gs)) ≤ suc (length gs)
-    go true e ih = rw (e, strike) (omega arith)
-    go false e ih = rw (e, strike) (omega arith)
-
 module _ (k n a : ℕ) where
+  abbrev test : Grant → Bool
+  test g = ledger.same k n a g
+
+  is-it : (j m b : ℕ) → test (grant j m b) ≡ true → grant j m b ≡ grant k n a
+  is-it j m b e =
+      let p = both (eqb j k && eqb m n) (eqb b a) e in
+      let q = both (eqb j k) (eqb m n) (p .0) in
+      λ i. grant (eqb-true j k (q .0) i) (eqb-true m n (q .1) i) (eqb-true b a (p .1) i)
+
   -- no block is beside itself
   not-beside : Apart (blk k a) (blk k a) → ⊥
   not-beside (under h) = omega (arith, pow-pos k)
   not-beside (over h) = omega (arith, pow-pos k)
-
-  abbrev test : Grant → Bool
-  test g = ledger.same k n a g
 
   struck-none : (gs : List Grant) → Beside (blk k a) (blocksOf gs) → strike test gs ≡ gs
   struck-none [] b = refl
   struck-none (grant j m c ∷ gs) (placing.next h b) = go (test (grant j m c)) refl (struck-none gs b)
     where
       go : (t : Bool) → test (grant j m c) ≡ t → strike test gs ≡ gs → strike test (grant j m c ∷ gs) ≡ grant j m c ∷ gs
-      go true e ih =
-          let q = same-fact k n a j m c e in
-          absurd (not-beside (rw (q .0, q .2) at h))
+      go true e ih = absurd (not-beside (rw (ap blockOf (is-it j m c e)) at h))
       go false e ih = rw (e, strike) (ap {B = List Grant} (λ l. grant j m c ∷ l) ih)
 
-  -- one grant is struck out, with its block and its request
-  pub record Struck (gs : List Grant) : Type 0 where
-    pub blocks : blocksOf gs ~ (blk k a ∷ blocksOf (strike test gs))
-    pub requested : requests gs ≡ n + requests (strike test gs)
-
-  pub struck : {order bytes : ℕ} (gs : List Grant) → some test gs ≡ true → Placed order bytes (blocksOf gs) → Struck gs
+  -- of grants whose blocks are apart, one is struck out
+  pub struck : {order bytes : ℕ} (gs : List Grant) → some test gs ≡ true → Placed order bytes (blocksOf gs) → gs ~ (grant k n a ∷ strike test gs)
   struck [] e p = absurd (let z : _≡_ {A = ℕ} 0 1 = cc in omega arith)
   struck (grant j m c ∷ gs) e (placing.next f b p) = go (test (grant j m c)) refl (λ found. struck gs found p)
     where
-      go : (t : Bool) → test (grant j m c) ≡ t → (some test gs ≡ true → Struck gs) → Struck (grant j m c ∷ gs)
+      go : (t : Bool) → test (grant j m c) ≡ t → (some test gs ≡ true → gs ~ (grant k n a ∷ strike test gs)) → (grant j m c ∷ gs) ~ (grant k n a ∷ strike test (grant j m c ∷ gs))
       go true h ih =
-          let q = same-fact k n a j m c h in
-          let b′ : Beside (blk k a) (blocksOf gs) = rw (q .0, q .2) at b in
-          let same-block : blk j c ≡ blk k a = λ i. blk (q .0 i) (q .2 i) in
-          record { blocks = rw (h, strike, struck-none gs b′, same-block) same; requested = rw (h, strike, struck-none gs b′) (omega arith) }
-      go false h ih =
-          let w = ih (rw (h, some) at e) in
-          record { blocks = rw (h, strike) (then (keep (blk j c) (w .blocks)) (swap (blk j c) (blk k a))); requested = rw (h, strike) (omega (arith, w .requested)) }
+          let q : grant j m c ≡ grant k n a = is-it j m c h in
+          let b′ : Beside (blk k a) (blocksOf gs) = rw (ap blockOf q) at b in
+          rw (h, strike, struck-none gs b′, q) same
+      go false h ih = rw (h, strike) (then (keep (grant j m c) (ih (rw (h, some) at e))) (swap (grant j m c) (grant k n a)))
 
   pub row-of : {order floor : ℕ} {gs : List Grant} → Rows order floor gs → some test gs ≡ true → Row order k n a
   row-of none e = absurd (let z : _≡_ {A = ℕ} 0 1 = cc in omega arith)
   row-of {order} (next {k = j} {n = m} {a = c} {gs} r h rest) e = go (test (grant j m c)) refl (λ found. row-of rest found)
     where
+      row : Grant → Type 0
+      row g = Row order (ledger.class g) (ledger.requested g) (ledger.address g)
+
       go : (t : Bool) → test (grant j m c) ≡ t → (some test gs ≡ true → Row order k n a) → Row order k n a
-      go true q ih = let w = same-fact k n a j m c q in rw (w .0, w .1, w .2) at r
+      go true q ih = subst row (is-it j m c q) r
       go false q ih = ih (rw (q, some) at e)

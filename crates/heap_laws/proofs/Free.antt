@@ -35,24 +35,22 @@ free-middle i (suc k) c a us zs (l ∷ ls) e h =
 
 -- ---- the blocks of one class
 
-pub beside-class : {b : Block} (i j : ℕ) (ls : List (List ℕ)) → Beside b (freeOf i ls) → Beside b (map (blk (i + j)) (ofClass j ls))
-beside-class i j [] p = none
-beside-class i zero (l ∷ ls) p =
-    let e : i + 0 ≡ i = omega arith in
-    rw e (beside-front (map (blk i) l) (freeOf (suc i) ls) p)
-beside-class i (suc j) (l ∷ ls) p =
-    let e : i + suc j ≡ suc i + j = omega arith in
-    rw e (beside-class (suc i) j ls (beside-rest (map (blk i) l) (freeOf (suc i) ls) p))
-
-module _ {order bytes : ℕ} where
-  pub placed-class : (i j : ℕ) (ls : List (List ℕ)) → Placed order bytes (freeOf i ls) → Placed order bytes (map (blk (i + j)) (ofClass j ls))
-  placed-class i j [] p = none
-  placed-class i zero (l ∷ ls) p =
+-- what holds of the front and of the rest of any list of blocks of which it holds, holds of the blocks of one class
+module _ (P : List Block → Type 0) (at-none : P []) (front : (xs ys : List Block) → P (xs ++ ys) → P xs) (rest : (xs ys : List Block) → P (xs ++ ys) → P ys) where
+  one-class : (i j : ℕ) (ls : List (List ℕ)) → P (freeOf i ls) → P (map (blk (i + j)) (ofClass j ls))
+  one-class i j [] p = at-none
+  one-class i zero (l ∷ ls) p =
       let e : i + 0 ≡ i = omega arith in
-      rw e (placed-front (map (blk i) l) (freeOf (suc i) ls) p)
-  placed-class i (suc j) (l ∷ ls) p =
+      rw e (front (map (blk i) l) (freeOf (suc i) ls) p)
+  one-class i (suc j) (l ∷ ls) p =
       let e : i + suc j ≡ suc i + j = omega arith in
-      rw e (placed-class (suc i) j ls (placed-rest (map (blk i) l) (freeOf (suc i) ls) p))
+      rw e (one-class (suc i) j ls (rest (map (blk i) l) (freeOf (suc i) ls) p))
+
+beside-class : {b : Block} (j : ℕ) (ls : List (List ℕ)) → Beside b (freeOf 0 ls) → Beside b (map (blk (0 + j)) (ofClass j ls))
+beside-class {b} j ls p = one-class (Beside b) none beside-front beside-rest 0 j ls p
+
+placed-class : {order bytes : ℕ} (j : ℕ) (ls : List (List ℕ)) → Placed order bytes (freeOf 0 ls) → Placed order bytes (map (blk (0 + j)) (ofClass j ls))
+placed-class {order} {bytes} j ls p = one-class (Placed order bytes) none placed-front placed-rest 0 j ls p
 
 -- ---- words
 
@@ -74,7 +72,7 @@ away-nodes i (x ∷ xs) h (next g b) (next f c p) = (other-word h f g, away-node
 
 -- a word of a block beside the free ones is the word of no node
 pub away-class : {order bytes w k a : ℕ} (j : ℕ) (ls : List (List ℕ)) → Word w k a → Beside (blk k a) (freeOf 0 ls) → Placed order bytes (freeOf 0 ls) → Away w (ofClass j ls)
-away-class j ls h b p = away-nodes (0 + j) (ofClass j ls) h (beside-class 0 j ls b) (placed-class 0 j ls p)
+away-class j ls h b p = away-nodes (0 + j) (ofClass j ls) h (beside-class j ls b) (placed-class j ls p)
 
 -- the nodes lie in the arena, and none in its first word
 nodes-within : {order : ℕ} (n i : ℕ) (xs : List ℕ) → Placed order (n * 8) (map (blk i) xs) → Within n xs × Away 0 xs
@@ -87,4 +85,4 @@ nodes-within n i (x ∷ xs) (next f c p) =
     ((omega (arith, f .inside), rest .0), ((λ e. omega (arith, f .above)), rest .1))
 
 pub class-within : {order : ℕ} (n j : ℕ) (ls : List (List ℕ)) → Placed order (n * 8) (freeOf 0 ls) → Within n (ofClass j ls) × Away 0 (ofClass j ls)
-class-within n j ls p = nodes-within n (0 + j) (ofClass j ls) (placed-class 0 j ls p)
+class-within n j ls p = nodes-within n (0 + j) (ofClass j ls) (placed-class j ls p)

@@ -15,13 +15,13 @@ use Rattle.blocks.specs.declared.Rounded.the-variants.{Class, Above}
 use Rattle.blocks.proofs.Rounding.{aligned-is, least-class}
 use Rattle.ledger.specs.Ledger.{grant, enter}
 use Rattle.heap_state.specs.Lists.{Memory, head, splitDown}
-use Rattle.heap_state.specs.Sound.{blk}
+use Rattle.heap_state.specs.Sound.{blk, blockOf}
 use Rattle.heap_state.specs.State.{State}
 use Rattle.heap_core.specs.Deciding.{memory, granted, wanted, classFor, serving, withGrants, grantedFrom, granting}
 use Rattle.heap.specs.Outcome.{Alloc}
 use Rattle.heap_laws.specs.ListRules.{lists, first, grantL}
 use Rattle.heap_laws.specs.Claims.{Healthy, Follows, servedBy, listsAfter, valueAfter}
-use Rattle.heap_laws.proofs.Shuffles.{same-bytes}
+use Rattle.heap_laws.proofs.Shuffles.{_~_, same-length, mapped, same-bytes}
 use Rattle.heap_laws.proofs.Placing as placing
 use Rattle.heap_laws.proofs.Placing.{Placed, beside-rest}
 use Rattle.heap_laws.proofs.Free.{freeOf}
@@ -29,7 +29,8 @@ use Rattle.heap_laws.proofs.Managing.{Managed, in-hand, reordered}
 use Rattle.heap_laws.proofs.Granting.{serving-is, Serves, serves, grant-managed}
 use Rattle.heap_laws.proofs.Adding.{not-either}
 use Rattle.heap_laws.proofs.Ledgers.{Row}
-use Rattle.heap_laws.proofs.Entries.{blocksOf, entered-blocks, entered-requests, entered-length, entered-rows}
+use Rattle.heap_laws.proofs.Entries as entries
+use Rattle.heap_laws.proofs.Entries.{blocksOf, same-requests, entered-rows}
 use Rattle.heap_laws.proofs.Sounds.{lists-is}
 use Rattle.heap_laws.proofs.Keeping.{holds, kept-grants, granted-length, Right, does, judged}
 
@@ -71,11 +72,12 @@ module _ (st : State) (h : Healthy st) (k size : ℕ) (low : 3 ≤ k) (holds-it 
             short = omega (arith, f .inside, r .arena-high);
             near = omega (arith, f .inside, r .arena-high);
           } in
-          let s = entered-blocks k size a (granted st) in
-          kept-grants st h (reordered s g) (entered-rows k size a row (omega arith) (hd .rows) (beside-rest (freeOf 0 ls) (blocksOf (granted st)) b))
-          (omega (arith, entered-length k size a (granted st), granted-length st h))
-          (omega (arith, entered-requests k size a (granted st), hd .user))
-          (omega (arith, same-bytes s, hd .allocated))
+          let s = entries.entered k size a (granted st) in
+          let blocks = mapped blockOf s in
+          kept-grants st h (reordered blocks g) (entered-rows k size a row (omega arith) (hd .rows) (beside-rest (freeOf 0 ls) (blocksOf (granted st)) b))
+          (omega (arith, same-length s, granted-length st h))
+          (omega (arith, same-requests s, hd .user))
+          (omega (arith, same-bytes blocks, hd .allocated))
 
 module _ (st : State) (h : Healthy st) (k size : ℕ) (low : 3 ≤ k) (holds-it : size ≤ 2 ^ k) (room : st .heap .count < length (st .ledger)) where
   served : (j : ℕ) → Serves (st .heap .order - k) k j (lists (memory st)) → serving k st ≡ j →

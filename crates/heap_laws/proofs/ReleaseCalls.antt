@@ -10,35 +10,35 @@ use borrow.Author.Tests.{not-false}
 use Rattle.answers.specs.declared.Refusal.the-variants.{BadAlign, NotGranted}
 use Rattle.blocks.specs.Blocks.{isPowerOfTwo}
 use Rattle.blocks.proofs.Powers.{multiple, multiple-le}
-use Rattle.ledger.specs.Ledger.{strike, some, same}
+use Rattle.ledger.specs.Ledger.{grant, strike, some, same}
 use Rattle.heap_state.specs.Lists.{Memory, release}
-use Rattle.heap_state.specs.Sound.{Block, blk}
+use Rattle.heap_state.specs.Sound.{Block, blk, blockOf}
 use Rattle.heap_state.specs.State.{State}
 use Rattle.heap_core.specs.Deciding.{memory, top, granted, classFor, withGrants, releasing, zeroing, notGranted}
 use Rattle.heap.specs.Outcome.{Dealloc, ZeroFill}
 use Rattle.heap_laws.specs.ListRules.{lists}
 use Rattle.heap_laws.specs.Claims.{Healthy, Follows, Word, afterRelease, listsAfter, valueAfter}
-use Rattle.heap_laws.proofs.Shuffles.{back, same-bytes}
+use Rattle.heap_laws.proofs.Shuffles.{_~_, back, same-length, mapped, same-bytes}
 use Rattle.heap_laws.proofs.Placing as placing
 use Rattle.heap_laws.proofs.Placing.{Placed, placed-rest}
 use Rattle.heap_laws.proofs.Free.{freeOf}
 use Rattle.heap_laws.proofs.Managing.{Managed, in-hand, reordered, store-managed}
 use Rattle.heap_laws.proofs.Releasing.{Freed, release-managed}
 use Rattle.heap_laws.proofs.Ledgers.{Row}
-use Rattle.heap_laws.proofs.Entries.{blocksOf, Struck, struck, struck-rows, struck-length, row-of}
+use Rattle.heap_laws.proofs.Entries.{blocksOf, same-requests, struck, struck-rows, row-of}
 use Rattle.heap_laws.proofs.Sounds.{lists-is}
 use Rattle.heap_laws.proofs.Keeping.{holds, kept-ledger, kept-grants, granted-length, Right, does, judged}
 
 -- a granted block in hand, and what the ledger says of it
 module _ (st : State) (h : Healthy st) (k size a : ℕ) (found : some (same k size a) (granted st) ≡ true) where
-  out : Struck k size a (granted st)
+  out : granted st ~ (grant k size a ∷ strike (same k size a) (granted st))
   out = struck k size a (granted st) found (placed-rest (freeOf 0 (lists (memory st))) (blocksOf (granted st)) (holds st h .managed .placed))
 
   row : Row (st .heap .order) k size a
   row = row-of k size a (holds st h .rows) found
 
   pub in-hand-granted : Managed (st .heap .order) (length (st .arena)) (st .heap .total) (memory st) (lists (memory st)) (blk k a ∷ blocksOf (strike (same k size a) (granted st)))
-  in-hand-granted = reordered (out .blocks) (holds st h .managed)
+  in-hand-granted = reordered (mapped blockOf out) (holds st h .managed)
 
   -- ---- releasing
 
@@ -52,15 +52,15 @@ module _ (st : State) (h : Healthy st) (k size a : ℕ) (found : some (same k si
       record {
         value-is = f .compared;
         lists-are = lists-is (f .managed);
-        healthy = kept-grants st h (f .managed) (struck-rows (same k size a) (hd .rows)) (omega (arith, struck-length (same k size a) (granted st), granted-length st h, r .room))
-            (omega (arith, out .requested, hd .user)) (omega (arith, same-bytes (out .blocks), hd .allocated));
+        healthy = kept-grants st h (f .managed) (struck-rows (same k size a) (hd .rows)) (omega (arith, same-length out, granted-length st h, r .room))
+            (omega (arith, same-requests out, hd .user)) (omega (arith, same-bytes (mapped blockOf out), hd .allocated));
       }
 
   -- ---- words of a granted block
 
   -- a store into a word of the block
   pub word-stored : (w v : ℕ) → Word w k a → Managed (st .heap .order) (length (st .arena)) (st .heap .total) (record { heads = st .heap .heads; arena = set (st .arena) w v }) (lists (memory st)) (blocksOf (granted st))
-  word-stored w v inside = reordered (back (out .blocks)) (store-managed w v inside in-hand-granted)
+  word-stored w v inside = reordered (back (mapped blockOf out)) (store-managed w v inside in-hand-granted)
 
 -- a run of stores into words of a block in hand
 run-managed : {order n total : ℕ} {ls : List (List ℕ)} {others : List Block} {k a : ℕ} (heads arena : List ℕ) (w : ℕ) (vs : List ℕ) → a ≤ 8 * w → 8 * w + 8 * length vs ≤ a + 2 ^ k →
@@ -94,7 +94,7 @@ module _ (st : State) (h : Healthy st) (k size a : ℕ) (found : some (same k si
           sets-eq zs (st .arena) (a / 8) (omega (arith, f .inside)) ∙ append-assoc (take (a / 8) (st .arena)) zs (drop (a / 8 + length zs) (st .arena))
           ∙ ap (λ (c : ℕ). take (a / 8) (st .arena) ++ (zs ++ drop (a / 8 + c) (st .arena))) l in
           let g = run-managed (st .heap .heads) (st .arena) (a / 8) zs (omega arith) to (in-hand-granted st h k size a found) in
-          rw e at (reordered (back (out st h k size a found .blocks)) g)
+          rw e at (reordered (back (mapped blockOf (out st h k size a found))) g)
 
 -- ---- the calls
 
