@@ -19,3 +19,4 @@ pub mod ReleaseCalls
 pub mod Whole
 pub mod Foreign
 pub mod Made
+pub mod Reaching

@@ -1,12 +1,13 @@
 -- What is claimed of a sound heap whatever is called: its lists afterwards, by the rules of the lists, and that it stays sound.
 use mathlib.Core.Path.{_≡_}
 use mathlib.Core.Bool.{true}
-use mathlib.Core.List.{List}
+use mathlib.Core.List.{List, List·Memᴰ}
 use Prim.Native.Nat.{ℕ, _+_, _-_, _*_, _^_, _≤_}
 use lib.ListN.{length, set}
-use Rattle.heap_state.specs.State.{State, isSound}
-use Rattle.heap_core.specs.Deciding.{memory, top, roundUp, roundDown, classFor}
-use Rattle.heap.specs.Outcome.{Call, Init, AddToHeap, Alloc, Dealloc, ZeroFill, StatsAllocUser, StatsAllocActual, StatsTotalBytes}
+use Rattle.ledger.specs.Ledger.{grant}
+use Rattle.heap_state.specs.State.{State, isSound, making}
+use Rattle.heap_core.specs.Deciding.{memory, granted, top, roundUp, roundDown, classFor}
+use Rattle.heap.specs.Outcome.{Call, Init, AddToHeap, Alloc, Dealloc, ZeroFill, StatsAllocUser, StatsAllocActual, StatsTotalBytes, outcome}
 use Rattle.heap_laws.specs.ListRules.{lists, first, servingL, grantL, ReleasedL, releaseL, addL}
 
 -- a sound heap, with the "33 list heads" that its record has
@@ -68,3 +69,11 @@ stored w v st = record { heap = st .heap; arena = set (st .arena) w v; ledger = 
 pub record Undisturbed (st after : State) : Type 0 where
   pub lists-are : lists (memory after) ≡ lists (memory st)
   pub healthy : Healthy after
+
+-- ---- the heaps that there are
+
+-- made, then called and written to in granted blocks, any number of times
+pub data Reached : State → Type 0 where
+  made : (order : ℕ) (arena ledger : List ℕ) → making order arena ledger .number ≡ 0 → Reached (making order arena ledger .state)
+  called : (call : Call) {st : State} → Reached st → Reached (outcome call st .state)
+  written : (k n a w v : ℕ) {st : State} → Reached st → List·Memᴰ (grant k n a) (granted st) → Word w k a → Reached (stored w v st)
