@@ -15,11 +15,10 @@ use Rattle.heap_state.specs.State.{State}
 use Rattle.heap_core.specs.Deciding.{memory, bytes, top, granted, roundUp, roundDown, meets, adding}
 use Rattle.heap_laws.specs.ListRules.{lists, addL}
 use Rattle.heap_laws.specs.Claims.{Healthy, afterAdding}
-use Rattle.heap_laws.proofs.Managing.{Managed}
 use Rattle.heap_laws.proofs.Adding.{Clear, clear, not-either, add-managed}
 use Rattle.heap_laws.proofs.Tested.{free-is}
 use Rattle.heap_laws.proofs.Entries.{blocksOf}
-use Rattle.heap_laws.proofs.Sounds.{lists-is}
+use Rattle.heap_laws.proofs.Sounds.{ManagedBy, lists-is}
 use Rattle.heap_laws.proofs.Keeping.{holds, kept-ledger, Right, does, judged}
 
 not-both : (a b : Bool) → a && b ≡ false → b ≡ true → a ≡ false
@@ -29,7 +28,7 @@ not-both false b e h = refl
 module _ (st : State) (h : Healthy st) where
   abbrev Added : ℕ → ℕ → Type 0
   Added s c =
-      Managed (st .heap .order) (length (st .arena)) (st .heap .total + c) (pushAll c (top st) s c (memory st)) (addL c (top st) s c (lists (memory st))) (blocksOf (granted st))
+      ManagedBy st (st .heap .total + c) (pushAll c (top st) s c (memory st)) (addL c (top st) s c (lists (memory st))) (blocksOf (granted st))
 
   none-added : (s c : ℕ) → c ≡ 0 → Added s c
   unfolding pushAll addL
@@ -37,12 +36,14 @@ module _ (st : State) (h : Healthy st) where
       let e : st .heap .total + 0 ≡ st .heap .total = omega arith in
       rw (z, e) (holds st h .managed)
 
-  some-added : (s c : ℕ) → 0 < c → 0 < s → s % 8 ≡ 0 → c % 8 ≡ 0 → s + c ≤ length (st .arena) * 8 → meets s (s + c) (allBlocks (st .heap) (st .arena) (st .ledger)) ≡ false → Added s c
+  some-added : (s c : ℕ) → 0 < c → 0 < s → s % 8 ≡ 0 → c % 8 ≡ 0 → s + c ≤ length (st .arena) * 8 →
+      meets s (s + c) (allBlocks (st .heap) (st .arena) (st .ledger)) ≡ false → Added s c
   unfolding lists
   some-added s c some above start size inside miss =
       let r = holds st h .ranges in
       let low : s < s + c = omega arith in
-      let free : Clear s (s + c) (freeFrom 33 0 (memory st) ++ blocksOf (granted st)) = clear s (s + c) (allBlocks (st .heap) (st .arena) (st .ledger)) low miss in
+      let free : Clear s (s + c) (freeFrom 33 0 (memory st) ++ blocksOf (granted st)) =
+      clear s (s + c) (allBlocks (st .heap) (st .arena) (st .ledger)) low miss in
       add-managed c (top st) s c
       (record {
         low = omega (arith, r .order-low);
@@ -69,7 +70,8 @@ module _ (st : State) (h : Healthy st) where
       elim (decLe (roundDown e) (roundUp s)) [
         | yes g ↦ none-added (roundUp s) (roundDown e - roundUp s) (omega arith)
         | no g ↦
-            let n : (roundUp s ≡ 0) → ⊥ = eqb-false (roundUp s) 0 (not-both (eqb (roundUp s) 0) (ltb 0 (roundDown e)) null (lt-ltb 0 (roundDown e) (omega arith))) in
+            let n : (roundUp s ≡ 0) → ⊥ =
+            eqb-false (roundUp s) 0 (not-both (eqb (roundUp s) 0) (ltb 0 (roundDown e)) null (lt-ltb 0 (roundDown e) (omega arith))) in
             some-added (roundUp s) (roundDown e - roundUp s) (omega arith) (omega arith) (omega arith) (omega arith) (omega arith) (rw z miss)
       ]
 

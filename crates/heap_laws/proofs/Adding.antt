@@ -121,17 +121,20 @@ module _ {order n top s c : ℕ} (r : Range order n top s c) (some : 0 < c) wher
 
 module _ {order n : ℕ} {others : List Block} where
   -- a piece more is pushed
-  one-more : {total : ℕ} {m : Memory} {ls : List (List ℕ)} (s c q : ℕ) → Fits order (n * 8) q s → 2 ^ q ≤ c → Clear s (s + c) (freeOf 0 ls ++ others) → Managed order n total m ls others →
+  one-more : {total : ℕ} {m : Memory} {ls : List (List ℕ)} (s c q : ℕ) → Fits order (n * 8) q s → 2 ^ q ≤ c → Clear s (s + c) (freeOf 0 ls ++ others) →
+      Managed order n total m ls others →
       Managed order n (total + 2 ^ q) (push q s m) (pushL q s ls) others × Clear (s + 2 ^ q) (s + 2 ^ q + (c - 2 ^ q)) (freeOf 0 (pushL q s ls) ++ others)
   one-more {ls} s c q f l free g =
       let g′ = picked-up q s f (clear-beside q s (omega arith) (omega arith) free) g in
       let e : s + c ≡ s + 2 ^ q + (c - 2 ^ q) = omega arith in
       let h : s + 2 ^ q ≤ s + 2 ^ q = omega arith in
-      let r : (blk q s ∷ (freeOf 0 ls ++ others)) ~ (freeOf 0 (pushL q s ls) ++ others) = then (back (bring (blk q s) (freeOf 0 ls) others)) (push-shuffle q s ls others (omega (arith, f .high, g .lists-33, g .classes))) in
+      let r : (blk q s ∷ (freeOf 0 ls ++ others)) ~ (freeOf 0 (pushL q s ls) ++ others) =
+      then (back (bring (blk q s) (freeOf 0 ls) others)) (push-shuffle q s ls others (omega (arith, f .high, g .lists-33, g .classes))) in
       let part : Clear (s + 2 ^ q) (s + c) (freeOf 0 ls ++ others) = clear-part (omega arith) free in
       (push-managed q s g′, rw e at (clear-shuffled r (below h part)))
 
-  pub add-managed : {total : ℕ} {m : Memory} {ls : List (List ℕ)} (turns top s c : ℕ) → Range order n top s c → c ≤ turns → Clear s (s + c) (freeOf 0 ls ++ others) →
+  pub add-managed : {total : ℕ} {m : Memory} {ls : List (List ℕ)} (turns top s c : ℕ) → Range order n top s c → c ≤ turns →
+      Clear s (s + c) (freeOf 0 ls ++ others) →
       Managed order n total m ls others → Managed order n (total + c) (pushAll turns top s c m) (addL turns top s c ls) others
   unfolding pushAll addL
   add-managed {total} zero top s c r h free g = let e : total + c ≡ total = omega arith in rw e g

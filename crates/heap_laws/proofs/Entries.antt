@@ -41,7 +41,8 @@ module _ (k n a : ℕ) where
   after-it j b (over h) l = omega (arith, pow-pos j)
 
   -- a block beside the granted ones comes to its place
-  pub entered-rows : {order floor : ℕ} {gs : List Grant} → Row order k n a → floor ≤ a → Rows order floor gs → Beside (blk k a) (blocksOf gs) → Rows order floor (enter (grant k n a) gs)
+  pub entered-rows : {order floor : ℕ} {gs : List Grant} → Row order k n a → floor ≤ a → Rows order floor gs → Beside (blk k a) (blocksOf gs) →
+      Rows order floor (enter (grant k n a) gs)
   entered-rows r l none b = next r l none
   entered-rows {order} {floor} r l (next {k = j} {n = m} {a = c} {gs} q g rest) (placing.next h b) = go (ltb a c) refl (λ l′. entered-rows r l′ rest b)
     where
@@ -91,7 +92,8 @@ module _ (k n a : ℕ) where
   struck [] e p = absurd (let z : _≡_ {A = ℕ} 0 1 = cc in omega arith)
   struck (grant j m c ∷ gs) e (placing.next f b p) = go (test (grant j m c)) refl (λ found. struck gs found p)
     where
-      go : (t : Bool) → test (grant j m c) ≡ t → (some test gs ≡ true → gs ~ (grant k n a ∷ strike test gs)) → (grant j m c ∷ gs) ~ (grant k n a ∷ strike test (grant j m c ∷ gs))
+      go : (t : Bool) → test (grant j m c) ≡ t → (some test gs ≡ true → gs ~ (grant k n a ∷ strike test gs)) →
+          (grant j m c ∷ gs) ~ (grant k n a ∷ strike test (grant j m c ∷ gs))
       go true h ih =
           let q : grant j m c ≡ grant k n a = is-it j m c h in
           let b′ : Beside (blk k a) (blocksOf gs) = rw (ap blockOf q) at b in

@@ -31,7 +31,8 @@ free-middle i zero c a us zs (l ∷ ls) e h =
     let d : c ≡ i = omega arith in
     rw d (map-middle i a us zs (freeOf (suc i) ls))
 free-middle i (suc k) c a us zs (l ∷ ls) e h =
-    then (before (map (blk i) l) (free-middle (suc i) k c a us zs ls (omega arith) (omega arith))) (bring (blk c a) (map (blk i) l) (freeOf (suc i) (set ls k (us ++ zs))))
+    then (before (map (blk i) l) (free-middle (suc i) k c a us zs ls (omega arith) (omega arith)))
+    (bring (blk c a) (map (blk i) l) (freeOf (suc i) (set ls k (us ++ zs))))
 
 -- ---- the blocks of one class
 
@@ -71,7 +72,8 @@ away-nodes i [] h b p = tt
 away-nodes i (x ∷ xs) h (next g b) (next f c p) = (other-word h f g, away-nodes i xs h b p)
 
 -- a word of a block beside the free ones is the word of no node
-pub away-class : {order bytes w k a : ℕ} (j : ℕ) (ls : List (List ℕ)) → Word w k a → Beside (blk k a) (freeOf 0 ls) → Placed order bytes (freeOf 0 ls) → Away w (ofClass j ls)
+pub away-class : {order bytes w k a : ℕ} (j : ℕ) (ls : List (List ℕ)) → Word w k a → Beside (blk k a) (freeOf 0 ls) → Placed order bytes (freeOf 0 ls) →
+    Away w (ofClass j ls)
 away-class j ls h b p = away-nodes (0 + j) (ofClass j ls) h (beside-class j ls b) (placed-class j ls p)
 
 -- the nodes lie in the arena, and none in its first word

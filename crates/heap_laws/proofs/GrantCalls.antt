@@ -21,17 +21,17 @@ use Rattle.heap_core.specs.Deciding.{memory, granted, wanted, classFor, serving
 use Rattle.heap.specs.Outcome.{Alloc}
 use Rattle.heap_laws.specs.ListRules.{lists, first, grantL}
 use Rattle.heap_laws.specs.Claims.{Healthy, Follows, servedBy, listsAfter, valueAfter}
-use Rattle.heap_laws.proofs.Shuffles.{_~_, same-length, mapped, same-bytes}
+use Rattle.heap_laws.proofs.Shuffles.{same-length, mapped, same-bytes}
 use Rattle.heap_laws.proofs.Placing as placing
 use Rattle.heap_laws.proofs.Placing.{Placed, beside-rest}
 use Rattle.heap_laws.proofs.Free.{freeOf}
-use Rattle.heap_laws.proofs.Managing.{Managed, in-hand, reordered}
+use Rattle.heap_laws.proofs.Managing.{in-hand, reordered}
 use Rattle.heap_laws.proofs.Granting.{serving-is, Serves, serves, grant-managed}
 use Rattle.heap_laws.proofs.Adding.{not-either}
 use Rattle.heap_laws.proofs.Ledgers.{Row}
 use Rattle.heap_laws.proofs.Entries as entries
 use Rattle.heap_laws.proofs.Entries.{blocksOf, same-requests, entered-rows}
-use Rattle.heap_laws.proofs.Sounds.{lists-is}
+use Rattle.heap_laws.proofs.Sounds.{ManagedBy, lists-is}
 use Rattle.heap_laws.proofs.Keeping.{holds, kept-grants, granted-length, Right, does, judged}
 
 -- ---- the class of a request
@@ -56,7 +56,8 @@ class-holds size align h = wanted-holds size align (roundedAligned size align) (
 
 module _ (st : State) (h : Healthy st) (k size : ℕ) (low : 3 ≤ k) (holds-it : size ≤ 2 ^ k) where
   -- a block in hand beside the granted ones is entered
-  entered : {m : Memory} {ls : List (List ℕ)} (a : ℕ) → Managed (st .heap .order) (length (st .arena)) (st .heap .total) m ls (blk k a ∷ blocksOf (granted st)) →
+  entered : {m : Memory} {ls : List (List ℕ)} (a : ℕ) →
+      ManagedBy st (st .heap .total) m ls (blk k a ∷ blocksOf (granted st)) →
       st .heap .count < length (st .ledger) → Healthy (withGrants st m (enter (grant k size a) (granted st)) (st .heap .user + size) (st .heap .allocated + 2 ^ k))
   entered {m} {ls} a g room = go (in-hand g)
     where
@@ -87,7 +88,8 @@ module _ (st : State) (h : Healthy st) (k size : ℕ) (low : 3 ≤ k) (holds-it 
       let f : first j (lists (memory st)) ≡ s .block = ap (λ (l : List ℕ). getD l 0 0) (s .is) in
       rw (e, g .0) (record { value-is = sym f; lists-are = lists-is (g .1); healthy = entered st h k size low holds-it (s .block) (g .1) room })
 
-pub granting-right : (st : State) → Healthy st → (size align : ℕ) → Right (valueAfter (Alloc size align) st) (listsAfter (Alloc size align) st) (granting size align st)
+pub granting-right : (st : State) → Healthy st → (size align : ℕ) →
+    Right (valueAfter (Alloc size align) st) (listsAfter (Alloc size align) st) (granting size align st)
 unfolding granting
 granting-right st h size align =
     let k : ℕ = classFor size align in

@@ -55,7 +55,8 @@ serves (suc c) k ls h = go (eqb (length (ofClass k ls)) 0) refl (serves c (suc k
     later : {j : ℕ} → Serves c (suc k) j ls → Serves (suc c) k j ls
     later {j} s = record { from = omega (arith, s .from); to = omega (arith, s .to); block = s .block; rest = s .rest; is = s .is }
 
-    go : (t : Bool) → eqb (length (ofClass k ls)) 0 ≡ t → (servingL c (suc k) ls < 33 → Serves c (suc k) (servingL c (suc k) ls) ls) → Serves (suc c) k (servingL (suc c) k ls) ls
+    go : (t : Bool) → eqb (length (ofClass k ls)) 0 ≡ t → (servingL c (suc k) ls < 33 → Serves c (suc k) (servingL c (suc k) ls) ls) →
+        Serves (suc c) k (servingL (suc c) k ls) ls
     go true e rest = rw (e, servingL) (later (rest (rw (e, servingL) at h)))
     go false e rest = rw (e, servingL) (serves-here c k ls (ofClass k ls) refl e)
 
@@ -78,7 +79,8 @@ module _ {order n total : ℕ} {others : List Block} where
       let upper = push-managed k (a + 2 ^ k) (halve-managed low (pop-managed (suc k) g e)) in
       rw (head-is (suc k) g e, f) (push-managed k a upper, _, pushed-first k a (pushL k (a + 2 ^ k) (popL (suc k) ls)) (omega (arith, upper .lists-33)))
 
-  pub down-managed : {m : Memory} {ls : List (List ℕ)} {a : ℕ} {xs : List ℕ} (d k : ℕ) → 3 ≤ k → Managed order n total m ls others → ofClass (k + d) ls ≡ a ∷ xs →
+  pub down-managed : {m : Memory} {ls : List (List ℕ)} {a : ℕ} {xs : List ℕ} (d k : ℕ) → 3 ≤ k → Managed order n total m ls others →
+      ofClass (k + d) ls ≡ a ∷ xs →
       Down order n total k a (splitDown d k m) (splitDownL d k ls) others
   unfolding splitDown splitDownL
   down-managed {xs} zero k low g e =

@@ -41,12 +41,14 @@ halves : {order bytes k a : ℕ} {bs : List Block} → 3 ≤ k → Placed order 
 halves {order} {bytes} {k} {a} l (next f b p) =
     let d : a % 2 ^ k ≡ 0 = multiple-le k (suc k) a (omega arith) (f .aligned) in
     let e : (a + 2 ^ k) % 2 ^ k ≡ 0 = multiple (a + 2 ^ k) (a / 2 ^ k + 1) (2 ^ k) (omega (arith, quotient a (2 ^ k) d)) in
-    let high : Fits order bytes k (a + 2 ^ k) = record { low = l; high = omega (arith, f .high); aligned = e; above = omega (arith, f .above); inside = omega (arith, f .inside) } in
+    let high : Fits order bytes k (a + 2 ^ k) =
+    record { low = l; high = omega (arith, f .high); aligned = e; above = omega (arith, f .above); inside = omega (arith, f .inside) } in
     let low : Fits order bytes k a = record { low = l; high = omega (arith, f .high); aligned = d; above = f .above; inside = omega (arith, f .inside) } in
     let h : a + 2 ^ k ≤ a + 2 ^ k = omega arith in
     next high (next (over h) (part-beside (omega arith) (omega arith) b)) (next low (part-beside (omega arith) (omega arith) b) p)
 
-pub halve-managed : {order n total : ℕ} {m : Memory} {ls : List (List ℕ)} {others : List Block} {k a : ℕ} → 3 ≤ k → Managed order n total m ls (blk (suc k) a ∷ others) →
+pub halve-managed : {order n total : ℕ} {m : Memory} {ls : List (List ℕ)} {others : List Block} {k a : ℕ} → 3 ≤ k →
+    Managed order n total m ls (blk (suc k) a ∷ others) →
     Managed order n total m ls (blk k (a + 2 ^ k) ∷ blk k a ∷ others)
 halve-managed {ls} {others} {k} {a} l g =
     let s = then (keep (blk k (a + 2 ^ k)) (back (bring (blk k a) (freeOf 0 ls) others))) (back (bring (blk k (a + 2 ^ k)) (freeOf 0 ls) (blk k a ∷ others))) in
@@ -54,20 +56,23 @@ halve-managed {ls} {others} {k} {a} l g =
 
 -- ---- joining
 
-joined : {order bytes k a : ℕ} {bs : List Block} → suc k < order → a % 2 ^ suc k ≡ 0 → Placed order bytes (blk k a ∷ blk k (a + 2 ^ k) ∷ bs) → Placed order bytes (blk (suc k) a ∷ bs)
+joined : {order bytes k a : ℕ} {bs : List Block} → suc k < order → a % 2 ^ suc k ≡ 0 → Placed order bytes (blk k a ∷ blk k (a + 2 ^ k) ∷ bs) →
+    Placed order bytes (blk (suc k) a ∷ bs)
 joined {order} {bytes} {k} {a} l d (next f (next h b) (next g c p)) =
     let w : Fits order bytes (suc k) a = record { low = omega (arith, f .low); high = l; aligned = d; above = f .above; inside = omega (arith, g .inside) } in
     next w (whole-beside b c) p
 
 module _ {order n total : ℕ} {m : Memory} {ls : List (List ℕ)} {others : List Block} (k : ℕ) (up : suc k < order) where
-  whole-managed : (a : ℕ) → a % 2 ^ suc k ≡ 0 → Managed order n total m ls (blk k a ∷ blk k (a + 2 ^ k) ∷ others) → Managed order n total m ls (blk (suc k) a ∷ others)
+  whole-managed : (a : ℕ) → a % 2 ^ suc k ≡ 0 → Managed order n total m ls (blk k a ∷ blk k (a + 2 ^ k) ∷ others) →
+      Managed order n total m ls (blk (suc k) a ∷ others)
   whole-managed a d g =
       let r = then (bring (blk k a) (freeOf 0 ls) (blk k (a + 2 ^ k) ∷ others)) (keep (blk k a) (bring (blk k (a + 2 ^ k)) (freeOf 0 ls) others)) in
       let s = back (bring (blk (suc k) a) (freeOf 0 ls) others) in
       regrouped g (placed-shuffled s (joined up d (placed-shuffled r (g .placed)))) (omega (arith, same-bytes s, same-bytes r, g .bytes))
 
   -- a block and its buddy are one block of the next class
-  pub join-managed : (a : ℕ) → k ≤ 32 → a % 2 ^ k ≡ 0 → Managed order n total m ls (blk k a ∷ blk k (buddyOf k a) ∷ others) → Managed order n total m ls (blk (suc k) (min a (buddyOf k a)) ∷ others)
+  pub join-managed : (a : ℕ) → k ≤ 32 → a % 2 ^ k ≡ 0 → Managed order n total m ls (blk k a ∷ blk k (buddyOf k a) ∷ others) →
+      Managed order n total m ls (blk (suc k) (min a (buddyOf k a)) ∷ others)
   join-managed a l d g = go (pair k a l d)
     where
       go : Buddies k a (buddyOf k a) → Managed order n total m ls (blk (suc k) (min a (buddyOf k a)) ∷ others)
@@ -76,5 +81,6 @@ module _ {order n total : ℕ} {m : Memory} {ls : List (List ℕ)} {others : Lis
           rw h (whole-managed a f (rw e at g))
       go (lower f e) =
           let h : min a (buddyOf k a) ≡ buddyOf k a = omega arith in
-          let r : Managed order n total m ls (blk k (buddyOf k a) ∷ blk k (buddyOf k a + 2 ^ k) ∷ others) = rw (← e) (reordered (swap (blk k a) (blk k (buddyOf k a))) g) in
+          let r : Managed order n total m ls (blk k (buddyOf k a) ∷ blk k (buddyOf k a + 2 ^ k) ∷ others) =
+          rw (← e) (reordered (swap (blk k a) (blk k (buddyOf k a))) g) in
           rw h (whole-managed (buddyOf k a) f r)

@@ -16,9 +16,10 @@ use Rattle.heap_laws.specs.Claims.{Healthy, Follows}
 use Rattle.heap_laws.proofs.Managing.{Managed}
 use Rattle.heap_laws.proofs.Ledgers.{Rows, records-true, ascending-true, words-length, words-zeros, words-taken, words-grants}
 use Rattle.heap_laws.proofs.Entries.{blocksOf}
-use Rattle.heap_laws.proofs.Sounds.{Held, held, sounds}
+use Rattle.heap_laws.proofs.Sounds.{ManagedBy, Held, held, sounds}
 
-own-words : {order n total : ℕ} {m : Memory} {ls : List (List ℕ)} {others : List Block} → Managed order n total m ls others → Managed order (length (m .arena)) total m ls others
+own-words : {order n total : ℕ} {m : Memory} {ls : List (List ℕ)} {others : List Block} → Managed order n total m ls others →
+    Managed order (length (m .arena)) total m ls others
 own-words g = rw (g .words) g
 
 module _ (st : State) (h : Healthy st) where
@@ -30,7 +31,7 @@ module _ (st : State) (h : Healthy st) where
 
   module _ {m : Memory} {ls : List (List ℕ)} where
     -- other lists, and the grants as they were
-    pub kept-ledger : {total : ℕ} → Managed (st .heap .order) (length (st .arena)) total m ls (blocksOf (granted st)) → Healthy (withLists st m total)
+    pub kept-ledger : {total : ℕ} → ManagedBy st total m ls (blocksOf (granted st)) → Healthy (withLists st m total)
     kept-ledger {total} g =
         let s = sound-state in
         let r = s .ranges in
@@ -50,7 +51,8 @@ module _ (st : State) (h : Healthy st) where
         }
 
     -- other lists and other grants
-    pub kept-grants : {gs : List Grant} {user allocated : ℕ} → Managed (st .heap .order) (length (st .arena)) (st .heap .total) m ls (blocksOf gs) → Rows (st .heap .order) 0 gs →
+    pub kept-grants : {gs : List Grant} {user allocated : ℕ} → ManagedBy st (st .heap .total) m ls (blocksOf gs) →
+        Rows (st .heap .order) 0 gs →
         length gs ≤ length (st .ledger) → user ≡ requests gs → allocated ≡ bytesOf (blocksOf gs) → Healthy (withGrants st m gs user allocated)
     kept-grants {gs} {user} {allocated} g rows room u a =
         let r = sound-state .ranges in
@@ -86,6 +88,7 @@ pub data Right (value : ℕ) (after : List (List ℕ)) : Decision → Type 0 whe
   does : {v : ℕ} {st : State} → Follows value after v st → Right value after (done v st)
 
 -- a test that holds refuses, and one that does not leaves the rest
-pub judged : {value : ℕ} {after : List (List ℕ)} (t : Bool) (r : Refusal) (d : Decision) → (t ≡ false → Right value after d) → Right value after (elim t [ true ↦ refused r | false ↦ d ])
+pub judged : {value : ℕ} {after : List (List ℕ)} (t : Bool) (r : Refusal) (d : Decision) → (t ≡ false → Right value after d) →
+    Right value after (elim t [ true ↦ refused r | false ↦ d ])
 judged true r d f = refuses
 judged false r d f = f refl

@@ -49,24 +49,21 @@ rows-fact order floor (w ∷ ws) r a =
 
 -- ---- to the words
 
-module _ (k n a : ℕ) (short : n < 0x100_0000) (near : a < 0x100_0000) where
-  class-back : classOf (wordOf (grant k n a)) ≡ k
-  class-back = omega arith
+-- the fields of a grant's word are the grant's
+record Back (k n a w : ℕ) : Type 0 where
+  class : classOf w ≡ k
+  requested : requestedOf w ≡ n
+  gap : gapOf w ≡ 0
+  address : addressOf w ≡ a
 
-  requested-back : requestedOf (wordOf (grant k n a)) ≡ n
-  requested-back = omega arith
-
-  gap-back : gapOf (wordOf (grant k n a)) ≡ 0
-  gap-back = omega arith
-
-  address-back : addressOf (wordOf (grant k n a)) ≡ a
-  address-back = omega arith
+fields-back : (k n a : ℕ) → n < 0x100_0000 → a < 0x100_0000 → Back k n a (wordOf (grant k n a))
+fields-back k n a short near = omega arith
 
 record-true : (order k n a : ℕ) → Row order k n a → recordb order (wordOf (grant k n a)) ≡ true
 unfolding recordb
 record-true order k n a r =
-    rw (gap-back k n a (r .short) (r .near), class-back k n a (r .short) (r .near), requested-back k n a (r .short) (r .near), le-leb 3 k (r .low), lt-ltb k order (r .high))
-    (le-leb n (2 ^ k) (r .holds))
+    let back = fields-back k n a (r .short) (r .near) in
+    rw (back .gap, back .class, back .requested, le-leb 3 k (r .low), lt-ltb k order (r .high)) (le-leb n (2 ^ k) (r .holds))
 
 pub records-true : {order floor : ℕ} {gs : List Grant} → Rows order floor gs → recordsb order (map wordOf gs) ≡ true
 records-true none = refl
@@ -75,10 +72,12 @@ records-true {order} (next {k} {n} {a} {gs} r h rest) =
 
 pub ascending-true : {order floor : ℕ} {gs : List Grant} → Rows order floor gs → ascendingb floor (map wordOf gs) ≡ true
 ascending-true none = refl
-ascending-true {floor} (next {k} {n} {a} r h rest) = rw (address-back k n a (r .short) (r .near), le-leb floor a h) (ascending-true rest)
+ascending-true {floor} (next {k} {n} {a} r h rest) = rw (fields-back k n a (r .short) (r .near) .address, le-leb floor a h) (ascending-true rest)
 
 grant-back : (k n a : ℕ) → n < 0x100_0000 → a < 0x100_0000 → grantOf (wordOf (grant k n a)) ≡ grant k n a
-grant-back k n a s h = λ i. grant (class-back k n a s h i) (requested-back k n a s h i) (address-back k n a s h i)
+grant-back k n a s h =
+    let back = fields-back k n a s h in
+    λ i. grant (back .class i) (back .requested i) (back .address i)
 
 grants-back : {order floor : ℕ} {gs : List Grant} → Rows order floor gs → map grantOf (map wordOf gs) ≡ gs
 grants-back none = refl

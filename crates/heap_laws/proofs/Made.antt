@@ -52,14 +52,16 @@ module _ (order : ℕ) (arena ledger : List ℕ) where
   unfolding rangesb
   fresh-sound o l =
       let e : length {A = ℕ} (replicate (length ledger) 0) ≡ length ledger = length-replicate (length ledger) 0 in
-      let r : Ranges (freshHeap order) arena (replicate (length ledger) 0) = ranges-fact (freshHeap order) arena (replicate (length ledger) 0) (rw (e, l, o) (le-leb 0 (length ledger) (omega arith))) in
+      let r : Ranges (freshHeap order) arena (replicate (length ledger) 0) =
+      ranges-fact (freshHeap order) arena (replicate (length ledger) 0) (rw (e, l, o) (le-leb 0 (length ledger) (omega arith))) in
       record { heads-33 = refl; sound = sounds fresh (fresh-managed (r .arena-low) (r .order-high)) r refl refl (zeros (length ledger)) refl refl }
 
   pub made-sound : making order arena ledger .number ≡ 0 → Healthy (making order arena ledger .state)
   unfolding making
   made-sound e = go (orderb order) refl (lengthsb (length arena) (length ledger)) refl e
     where
-      go : (t : Bool) → orderb order ≡ t → (u : Bool) → lengthsb (length arena) (length ledger) ≡ u → madeIf t u order arena ledger .number ≡ 0 → Healthy (madeIf t u order arena ledger .state)
+      go : (t : Bool) → orderb order ≡ t → (u : Bool) → lengthsb (length arena) (length ledger) ≡ u → madeIf t u order arena ledger .number ≡ 0 →
+          Healthy (madeIf t u order arena ledger .state)
       go true o true l q = fresh-sound o l
       go true o false l q = absurd (omega arith)
       go false o u l q = absurd (omega arith)

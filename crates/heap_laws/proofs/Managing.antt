@@ -31,7 +31,8 @@ pub record Managed (order n total : ℕ) (m : Memory) (ls : List (List ℕ)) (ot
 
 module _ {order n total : ℕ} {m : Memory} {ls : List (List ℕ)} where
   -- the blocks in hand in another order, or other blocks in the same place
-  pub regrouped : {others others′ : List Block} → Managed order n total m ls others → Placed order (n * 8) (freeOf 0 ls ++ others′) → bytesOf (freeOf 0 ls ++ others′) ≡ total →
+  pub regrouped : {others others′ : List Block} → Managed order n total m ls others → Placed order (n * 8) (freeOf 0 ls ++ others′) →
+      bytesOf (freeOf 0 ls ++ others′) ≡ total →
       Managed order n total m ls others′
   regrouped g p b = record {
     some = g .some;
@@ -88,7 +89,8 @@ module _ {order n total : ℕ} {m : Memory} {ls : List (List ℕ)} where
 -- ---- one list is another afterwards, and the others stay
 
 module _ (heads arena : List ℕ) (ls : List (List ℕ)) (k h : ℕ) (xs : List ℕ) (in-heads : k < length heads) (in-lists : k < length ls) where
-  pub changed : Chain arena h xs → ((j : ℕ) → (j ≡ k → ⊥) → Chain arena (getD heads j 0) (ofClass j ls)) → (j : ℕ) → Chain arena (getD (set heads k h) j 0) (ofClass j (set ls k xs))
+  pub changed : Chain arena h xs → ((j : ℕ) → (j ≡ k → ⊥) → Chain arena (getD heads j 0) (ofClass j ls)) → (j : ℕ) →
+      Chain arena (getD (set heads k h) j 0) (ofClass j (set ls k xs))
   changed c rest j =
       elim (ℕ-discrete j k) [
         | yes e ↦ rw (e, getD-set-same heads k h 0 in-heads, getD-set-same ls k xs [] in-lists) c
@@ -97,10 +99,12 @@ module _ (heads arena : List ℕ) (ls : List (List ℕ)) (k h : ℕ) (xs : List 
 
 -- ---- the moves
 
-pub push-shuffle : (k a : ℕ) (ls : List (List ℕ)) (others : List Block) → k < length ls → (freeOf 0 ls ++ blk k a ∷ others) ~ (freeOf 0 (pushL k a ls) ++ others)
+pub push-shuffle : (k a : ℕ) (ls : List (List ℕ)) (others : List Block) → k < length ls →
+    (freeOf 0 ls ++ blk k a ∷ others) ~ (freeOf 0 (pushL k a ls) ++ others)
 unfolding pushL
 push-shuffle k a ls others h =
-    let s : freeOf 0 (set ls k (a ∷ ofClass k ls)) ~ (blk k a ∷ freeOf 0 (set ls k (ofClass k ls))) = free-middle 0 k k a [] (ofClass k ls) ls (omega arith) h in
+    let s : freeOf 0 (set ls k (a ∷ ofClass k ls)) ~ (blk k a ∷ freeOf 0 (set ls k (ofClass k ls))) =
+    free-middle 0 k k a [] (ofClass k ls) ls (omega arith) h in
     then (bring (blk k a) (freeOf 0 ls) others) (back (after others (rw (set-getD ls k []) at s)))
 
 pub push-managed : {order n total : ℕ} {m : Memory} {ls : List (List ℕ)} {others : List Block} (k a : ℕ) → Managed order n total m ls (blk k a ∷ others) →
@@ -111,7 +115,8 @@ push-managed {order} {n} {total} {m} {ls} {others} k a g = go (in-hand g)
     go : Placed order (n * 8) (blk k a ∷ (freeOf 0 ls ++ others)) → Managed order n total (push k a m) (pushL k a ls) others
     go (next f b p) =
         let here : k < 33 = omega (arith, f .high, g .classes) in
-        let away : (j : ℕ) → Away (a / 8) (ofClass j ls) = λ j. away-class j ls (first-word f) (beside-front (freeOf 0 ls) others b) (placed-front (freeOf 0 ls) others p) in
+        let away : (j : ℕ) → Away (a / 8) (ofClass j ls) =
+        λ j. away-class j ls (first-word f) (beside-front (freeOf 0 ls) others b) (placed-front (freeOf 0 ls) others p) in
         let w = first-word f in
         let s = push-shuffle k a ls others (omega (arith, g .lists-33)) in
         record {

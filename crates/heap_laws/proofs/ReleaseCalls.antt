@@ -26,7 +26,7 @@ use Rattle.heap_laws.proofs.Managing.{Managed, in-hand, reordered, stor
 use Rattle.heap_laws.proofs.Releasing.{Freed, release-managed}
 use Rattle.heap_laws.proofs.Ledgers.{Row}
 use Rattle.heap_laws.proofs.Entries.{blocksOf, same-requests, struck, struck-rows, row-of}
-use Rattle.heap_laws.proofs.Sounds.{lists-is}
+use Rattle.heap_laws.proofs.Sounds.{ManagedBy, lists-is}
 use Rattle.heap_laws.proofs.Keeping.{holds, kept-ledger, kept-grants, granted-length, Right, does, judged}
 
 -- a granted block in hand, and what the ledger says of it
@@ -37,7 +37,7 @@ module _ (st : State) (h : Healthy st) (k size a : ℕ) (found : some (same k si
   row : Row (st .heap .order) k size a
   row = row-of k size a (holds st h .rows) found
 
-  pub in-hand-granted : Managed (st .heap .order) (length (st .arena)) (st .heap .total) (memory st) (lists (memory st)) (blk k a ∷ blocksOf (strike (same k size a) (granted st)))
+  pub in-hand-granted : ManagedBy st (st .heap .total) (memory st) (lists (memory st)) (blk k a ∷ blocksOf (strike (same k size a) (granted st)))
   in-hand-granted = reordered (mapped blockOf out) (holds st h .managed)
 
   -- ---- releasing
@@ -47,7 +47,8 @@ module _ (st : State) (h : Healthy st) (k size a : ℕ) (found : some (same k si
   released =
       let hd = holds st h in
       let r = hd .ranges in
-      let f : Freed (st .heap .order) (length (st .arena)) (st .heap .total) (release (top st) k a (memory st)) (afterRelease k a st) (blocksOf (strike (same k size a) (granted st))) =
+      let f : Freed (st .heap .order) (length (st .arena)) (st .heap .total) (release (top st) k a (memory st)) (afterRelease k a st)
+      (blocksOf (strike (same k size a) (granted st))) =
       release-managed (top st) k a (omega (arith, row .high)) (omega (arith, r .order-low)) in-hand-granted in
       record {
         value-is = f .compared;
@@ -59,12 +60,15 @@ module _ (st : State) (h : Healthy st) (k size a : ℕ) (found : some (same k si
   -- ---- words of a granted block
 
   -- a store into a word of the block
-  pub word-stored : (w v : ℕ) → Word w k a → Managed (st .heap .order) (length (st .arena)) (st .heap .total) (record { heads = st .heap .heads; arena = set (st .arena) w v }) (lists (memory st)) (blocksOf (granted st))
+  pub word-stored : (w v : ℕ) → Word w k a →
+      ManagedBy st (st .heap .total) (record { heads = st .heap .heads; arena = set (st .arena) w v }) (lists (memory st)) (blocksOf (granted st))
   word-stored w v inside = reordered (back (mapped blockOf out)) (store-managed w v inside in-hand-granted)
 
 -- a run of stores into words of a block in hand
-run-managed : {order n total : ℕ} {ls : List (List ℕ)} {others : List Block} {k a : ℕ} (heads arena : List ℕ) (w : ℕ) (vs : List ℕ) → a ≤ 8 * w → 8 * w + 8 * length vs ≤ a + 2 ^ k →
-    Managed order n total (record { heads = heads; arena = arena }) ls (blk k a ∷ others) → Managed order n total (record { heads = heads; arena = sets arena w vs }) ls (blk k a ∷ others)
+run-managed : {order n total : ℕ} {ls : List (List ℕ)} {others : List Block} {k a : ℕ} (heads arena : List ℕ) (w : ℕ) (vs : List ℕ) → a ≤ 8 * w →
+    8 * w + 8 * length vs ≤ a + 2 ^ k →
+    Managed order n total (record { heads = heads; arena = arena }) ls (blk k a ∷ others) →
+    Managed order n total (record { heads = heads; arena = sets arena w vs }) ls (blk k a ∷ others)
 run-managed heads arena w [] from to g = g
 run-managed heads arena w (v ∷ vs) from to g =
     run-managed heads (set arena w v) (suc w) vs (omega arith) (omega arith) (store-managed w v (record { from = from; to = omega arith }) g)
@@ -75,7 +79,7 @@ module _ (st : State) (h : Healthy st) (k size a : ℕ) (found : some (same k si
   cleared = record { heads = st .heap .heads; arena = take (a / 8) (st .arena) ++ (replicate ((size + 7) / 8) 0 ++ drop (a / 8 + (size + 7) / 8) (st .arena)) }
 
   abbrev Cleared : Type 0
-  Cleared = Managed (st .heap .order) (length (st .arena)) (st .heap .total) cleared (lists (memory st)) (blocksOf (granted st))
+  Cleared = ManagedBy st (st .heap .total) cleared (lists (memory st)) (blocksOf (granted st))
 
   pub zeroed : Cleared
   zeroed = go (in-hand (in-hand-granted st h k size a found))

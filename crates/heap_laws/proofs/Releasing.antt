@@ -28,7 +28,8 @@ buddy-differs k a b (upper f e) q = omega (arith, pow-pos k)
 buddy-differs k a b (lower f e) q = omega (arith, pow-pos k)
 
 -- the first of a list stays first where another is taken out, and is itself what a pop takes out
-others-out : (k a b : ℕ) (ls : List (List ℕ)) (xs : List ℕ) → k < length ls → (a ≡ b → ⊥) → ofClass k ls ≡ a ∷ xs → ofClass k (removeL k b ls) ≡ a ∷ without b xs
+others-out : (k a b : ℕ) (ls : List (List ℕ)) (xs : List ℕ) → k < length ls → (a ≡ b → ⊥) → ofClass k ls ≡ a ∷ xs →
+    ofClass k (removeL k b ls) ≡ a ∷ without b xs
 unfolding removeL without
 others-out k a b ls xs h q e = getD-set-same ls k (without b (ofClass k ls)) [] h ∙ rw (e, ne-eqb a b q)
 
@@ -48,8 +49,10 @@ module _ {order n total : ℕ} {m : Memory} {ls : List (List ℕ)} {others : Lis
       go (next f b p) = f
 
   -- "both are taken out and the joined block is pushed one class up"
-  one-up : {a : ℕ} {xs : List ℕ} (k : ℕ) → suc k < order → Managed order n total m ls others → ofClass k ls ≡ a ∷ xs → stands (buddyOf k a) (ofClass k ls) ≡ true →
-      Managed order n total (push (suc k) (min a (buddyOf k a)) (pop k (remove k (buddyOf k a) m))) (pushL (suc k) (min a (buddyOf k a)) (removeL k a (removeL k (buddyOf k a) ls)))
+  one-up : {a : ℕ} {xs : List ℕ} (k : ℕ) → suc k < order → Managed order n total m ls others → ofClass k ls ≡ a ∷ xs →
+      stands (buddyOf k a) (ofClass k ls) ≡ true →
+      Managed order n total (push (suc k) (min a (buddyOf k a)) (pop k (remove k (buddyOf k a) m)))
+      (pushL (suc k) (min a (buddyOf k a)) (removeL k a (removeL k (buddyOf k a) ls)))
       others
   one-up {a} {xs} k up g e found =
       let b = buddyOf k a in
@@ -72,7 +75,8 @@ join-up zero k a before h g e = record { managed = g; compared = refl }
 join-up {order} {n} {total} {m} {ls} {others} (suc above) k a before h g e =
     go (stands b (ofClass k ls)) refl
     (λ found. let g′ = one-up k (omega arith) g e found in
-    join-up above (suc k) c (before + compared b (ofClass k ls)) (omega arith) g′ (pushed-first (suc k) c (removeL k a (removeL k b ls)) (omega (arith, removed-length k b ls, removed-length k a (removeL k b ls), g .lists-33, g .classes))))
+    let l : length (removeL k a (removeL k b ls)) ≡ length ls = removed-length k a (removeL k b ls) ∙ removed-length k b ls in
+    join-up above (suc k) c (before + compared b (ofClass k ls)) (omega arith) g′ (pushed-first (suc k) c (removeL k a (removeL k b ls)) (omega (arith, g .lists-33, g .classes))))
   where
     b : ℕ
     b = buddyOf k a

@@ -1,12 +1,11 @@
 -- What a sound heap holds: its lists, its blocks and its grants; and a heap that holds them is sound. Assumes nothing.
 use mathlib.Core.Path.{_≡_, refl, sym, ap, _∙_}
 use mathlib.Core.Logic.{_⊎_, inl, inr}
-use mathlib.Core.Bool.{true, _&&_}
+use mathlib.Core.Bool.{true}
 use mathlib.Core.List.{List, [], _∷_, _++_}
 use Prim.Native.Nat.{ℕ, suc, _+_, _-_, _*_}
 use native.Mathlib.Decide.{decLe}
 use native.Mathlib.Omega.{arith}
-use lib.Dec.{eqb}
 use lib.ListN.{length, take, drop, List·getD-eq-default}
 use lib.Seq.{ext-getD}
 use borrow.Author.Tests.{eqb-true, eq-eqb}
@@ -41,9 +40,13 @@ lists-is {m} {ls} g =
 
 -- ---- what a sound heap holds
 
+-- lists in a memory of the state's size, with its ORDER
+abbrev pub ManagedBy : State → ℕ → Memory → List (List ℕ) → List Block → Type 0
+ManagedBy st total m ls others = Managed (st .heap .order) (length (st .arena)) total m ls others
+
 pub record Held (st : State) : Type 0 where
   pub ranges : Ranges (st .heap) (st .arena) (st .ledger)
-  pub managed : Managed (st .heap .order) (length (st .arena)) (st .heap .total) (memory st) (lists (memory st)) (blocksOf (granted st))
+  pub managed : ManagedBy st (st .heap .total) (memory st) (lists (memory st)) (blocksOf (granted st))
   pub rows : Rows (st .heap .order) 0 (granted st)
   pub user : st .heap .user ≡ requests (granted st)
   pub allocated : st .heap .allocated ≡ bytesOf (blocksOf (granted st))
@@ -75,7 +78,9 @@ module _ (st : State) (heads-33 : length (st .heap .heads) ≡ 33) (s : Sound (s
   unfolding Chain
   chains j =
       elim (decLe 33 j) [
-        | yes h ↦ rw (List·getD-eq-default (listsFrom 33 0 (memory st)) [] {n = j} (omega (arith, listed-length 33 0 (memory st)))) (List·getD-eq-default (st .heap .heads) 0 {n = j} (omega arith))
+        | yes h ↦
+            rw (List·getD-eq-default (listsFrom 33 0 (memory st)) [] {n = j} (omega (arith, listed-length 33 0 (memory st))))
+            (List·getD-eq-default (st .heap .heads) 0 {n = j} (omega arith))
         | no h ↦ let z : 0 + j ≡ j = omega arith in rw (listed-at 33 0 j (memory st) (omega arith), z) (walk j)
       ]
 
@@ -88,7 +93,8 @@ module _ (st : State) (heads-33 : length (st .heap .heads) ≡ 33) (s : Sound (s
       let rows : Rows (st .heap .order) 0 (granted st) = rows-fact (st .heap .order) 0 (take (st .heap .count) (st .ledger)) (s .records) (s .ascending) in
       let c = counted st (s .counters) in
       let bytes : ℕ = length (st .arena) * 8 in
-      let listed : (j : ℕ) → (head j (memory st) ≡ 0) ⊎ Listed (st .heap .order) j = λ j. let z : 0 + j ≡ j = omega arith in rw z at (heads-fact (st .heap .order) 0 (st .heap .heads) (s .heads) j) in
+      let listed : (j : ℕ) → (head j (memory st) ≡ 0) ⊎ Listed (st .heap .order) j =
+      λ j. let z : 0 + j ≡ j = omega arith in rw z at (heads-fact (st .heap .order) 0 (st .heap .heads) (s .heads) j) in
       let classed = classed-append (classed-free (st .heap .order) (memory st) listed 33 0) (classed-rows rows) in
       record {
         ranges = s .ranges;
@@ -111,7 +117,7 @@ module _ (st : State) (heads-33 : length (st .heap .heads) ≡ 33) (s : Sound (s
 
 -- ---- a heap that holds its lists, blocks and grants is sound
 
-module _ (st : State) {ls : List (List ℕ)} (g : Managed (st .heap .order) (length (st .arena)) (st .heap .total) (memory st) ls (blocksOf (granted st))) where
+module _ (st : State) {ls : List (List ℕ)} (g : ManagedBy st (st .heap .total) (memory st) ls (blocksOf (granted st))) where
   heads-of : (j : ℕ) (xs : List ℕ) → ofClass j ls ≡ xs → Chain (st .arena) (head j (memory st)) xs → (head j (memory st) ≡ 0) ⊎ Listed (st .heap .order) (0 + j)
   unfolding Chain
   heads-of j [] e c = inl c
@@ -129,12 +135,10 @@ module _ (st : State) {ls : List (List ℕ)} (g : Managed (st .heap .order) (len
   unfolding lists
   free-now = ap (freeOf 0) (sym (lists-is g)) ∙ sym (free-is 33 0 (memory st))
 
-  counters : st .heap .user ≡ requests (granted st) → st .heap .allocated ≡ bytesOf (blocksOf (granted st)) → countersb (st .heap) (st .arena) (st .ledger) ≡ true
+  counters : st .heap .user ≡ requests (granted st) → st .heap .allocated ≡ bytesOf (blocksOf (granted st)) →
+      countersb (st .heap) (st .arena) (st .ledger) ≡ true
   unfolding countersb
-  counters u a =
-      join (eqb (st .heap .user) (requests (granted st)) && eqb (st .heap .allocated) (bytesOf (blocksOf (granted st)))) (eqb (st .heap .total) (bytesOf (freeFrom 33 0 (memory st) ++ blocksOf (granted st))))
-      (join (eqb (st .heap .user) (requests (granted st))) (eqb (st .heap .allocated) (bytesOf (blocksOf (granted st)))) (eq-eqb _ _ u) (eq-eqb _ _ a))
-      (eq-eqb _ _ (sym (g .bytes) ∙ ap (λ (bs : List Block). bytesOf (bs ++ blocksOf (granted st))) free-now))
+  counters u a = join _ _ (join _ _ (eq-eqb _ _ u) (eq-eqb _ _ a)) (eq-eqb _ _ (sym (g .bytes) ∙ ap (λ (bs : List Block). bytesOf (bs ++ blocksOf (granted st))) free-now))
 
   pub sounds : Ranges (st .heap) (st .arena) (st .ledger) → recordsb (st .heap .order) (take (st .heap .count) (st .ledger)) ≡ true →
       ascendingb 0 (take (st .heap .count) (st .ledger)) ≡ true → zerosb (drop (st .heap .count) (st .ledger)) ≡ true → st .heap .user ≡ requests (granted st) →
@@ -147,7 +151,9 @@ module _ (st : State) {ls : List (List ℕ)} (g : Managed (st .heap .order) (len
         records = w;
         ascending = o;
         zeros = z;
-        placed = sym (ap (λ (bs : List Block). placedb (length (st .arena) * 8) (bs ++ blocksOf (granted st))) free-now) ∙ placed-true (length (st .arena) * 8) (freeOf 0 ls ++ blocksOf (granted st)) (g .placed);
-        disjoint = sym (ap (λ (bs : List Block). disjointb (bs ++ blocksOf (granted st))) free-now) ∙ disjoint-true (freeOf 0 ls ++ blocksOf (granted st)) (g .placed);
+        placed = sym (ap (λ (bs : List Block). placedb (length (st .arena) * 8) (bs ++ blocksOf (granted st))) free-now)
+            ∙ placed-true (length (st .arena) * 8) (freeOf 0 ls ++ blocksOf (granted st)) (g .placed);
+        disjoint = sym (ap (λ (bs : List Block). disjointb (bs ++ blocksOf (granted st))) free-now)
+            ∙ disjoint-true (freeOf 0 ls ++ blocksOf (granted st)) (g .placed);
         counters = counters u a;
       })

@@ -22,7 +22,8 @@ use Rattle.heap_laws.proofs.Free.{freeOf, free-middle, away-class, firs
 use Rattle.heap_laws.proofs.Managing.{Managed, class-below, list-is, changed}
 
 -- a node of a list, and the blocks without it
-free-taken : (k a : ℕ) (us zs : List ℕ) (ls : List (List ℕ)) → k < length ls → ofClass k ls ≡ us ++ a ∷ zs → freeOf 0 ls ~ (blk k a ∷ freeOf 0 (set ls k (us ++ zs)))
+free-taken : (k a : ℕ) (us zs : List ℕ) (ls : List (List ℕ)) → k < length ls → ofClass k ls ≡ us ++ a ∷ zs →
+    freeOf 0 ls ~ (blk k a ∷ freeOf 0 (set ls k (us ++ zs)))
 free-taken k a us zs ls h e =
     let s : freeOf 0 (set ls k (us ++ a ∷ zs)) ~ (blk k a ∷ freeOf 0 (set ls k (us ++ zs))) = free-middle 0 k k a us zs ls (omega arith) h in
     let d : set ls k (us ++ a ∷ zs) ≡ ls = ap (set ls k) (sym e) ∙ set-getD ls k [] in
@@ -38,7 +39,8 @@ module _ {order n total : ℕ} {m : Memory} {ls : List (List ℕ)} {others : Lis
   unfolding Chain
   head-is {a} {xs} k g e = let c : Chain (m .arena) (head k m) (a ∷ xs) = rw e at (g .chains k) in c .0
 
-  pub pop-managed : {a : ℕ} {xs : List ℕ} (k : ℕ) → Managed order n total m ls others → ofClass k ls ≡ a ∷ xs → Managed order n total (pop k m) (popL k ls) (blk k a ∷ others)
+  pub pop-managed : {a : ℕ} {xs : List ℕ} (k : ℕ) → Managed order n total m ls others → ofClass k ls ≡ a ∷ xs →
+      Managed order n total (pop k m) (popL k ls) (blk k a ∷ others)
   unfolding pop popL Chain
   pop-managed {a} {xs} k g e =
       let c : Chain (m .arena) (head k m) (a ∷ xs) = rw e at (g .chains k) in
@@ -72,7 +74,8 @@ module _ {order bytes : ℕ} (j k : ℕ) (ls : List (List ℕ)) (differ : j ≡ 
       go (next f b q) = rw (getD-set-other ls k j (us ++ zs) [] differ) at (away-class j (set ls k (us ++ zs)) (first-word f) b q)
 
 module _ {order n total : ℕ} {m : Memory} {ls : List (List ℕ)} {others : List Block} where
-  pub remove-managed : (k a : ℕ) → Managed order n total m ls others → stands a (ofClass k ls) ≡ true → Managed order n total (remove k a m) (removeL k a ls) (blk k a ∷ others)
+  pub remove-managed : (k a : ℕ) → Managed order n total m ls others → stands a (ofClass k ls) ≡ true →
+      Managed order n total (remove k a m) (removeL k a ls) (blk k a ∷ others)
   unfolding remove removeL
   remove-managed k a g found = rw (list-is k g) go
     where

@@ -43,7 +43,8 @@ refusal-above-0 NoBlock = omega arith
 refusal-above-0 NotGranted = omega arith
 refusal-above-0 NoRoom = omega arith
 
-accepted : {value : ℕ} {after : List (List ℕ)} (st : State) {d : Decision} → Right value after d → carried st d .number ≡ 0 → Follows value after (carried st d .value) (carried st d .state)
+accepted : {value : ℕ} {after : List (List ℕ)} (st : State) {d : Decision} → Right value after d → carried st d .number ≡ 0 →
+    Follows value after (carried st d .value) (carried st d .state)
 accepted st (refuses {r}) e = absurd (omega (arith, refusal-above-0 r))
 accepted st (does f) e = f
 
