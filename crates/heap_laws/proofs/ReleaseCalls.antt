@@ -23,11 +23,20 @@ use Rattle.heap_laws.proofs.Placing as placing
 use Rattle.heap_laws.proofs.Placing.{Placed, placed-rest}
 use Rattle.heap_laws.proofs.Free.{freeOf}
 use Rattle.heap_laws.proofs.Managing.{Managed, in-hand, reordered, store-managed}
-use Rattle.heap_laws.proofs.Releasing.{Freed, release-managed}
+use Rattle.heap_laws.proofs.Releasing.{release-managed}
 use Rattle.heap_laws.proofs.Ledgers.{Row}
 use Rattle.heap_laws.proofs.Entries.{blocksOf, same-requests, struck, struck-rows, row-of}
 use Rattle.heap_laws.proofs.Sounds.{ManagedBy, lists-is}
 use Rattle.heap_laws.proofs.Keeping.{holds, kept-ledger, kept-grants, granted-length, Right, does, judged}
+
+-- a run of stores into words of a block in hand
+run-managed : {order n total : ℕ} {ls : List (List ℕ)} {others : List Block} {k a : ℕ} (heads arena : List ℕ) (w : ℕ) (vs : List ℕ) → a ≤ 8 * w →
+    8 * w + 8 * length vs ≤ a + 2 ^ k →
+    Managed order n total (record { heads = heads; arena = arena }) ls (blk k a ∷ others) →
+    Managed order n total (record { heads = heads; arena = sets arena w vs }) ls (blk k a ∷ others)
+run-managed heads arena w [] from to g = g
+run-managed heads arena w (v ∷ vs) from to g =
+    run-managed heads (set arena w v) (suc w) vs (omega arith) (omega arith) (store-managed w v (record { from = from; to = omega arith }) g)
 
 -- a granted block in hand, and what the ledger says of it
 module _ (st : State) (h : Healthy st) (k size a : ℕ) (found : some (same k size a) (granted st) ≡ true) where
@@ -47,9 +56,7 @@ module _ (st : State) (h : Healthy st) (k size a : ℕ) (found : some (same k si
   released =
       let hd = holds st h in
       let r = hd .ranges in
-      let f : Freed (st .heap .order) (length (st .arena)) (st .heap .total) (release (top st) k a (memory st)) (afterRelease k a st)
-      (blocksOf (strike (same k size a) (granted st))) =
-      release-managed (top st) k a (omega (arith, row .high)) (omega (arith, r .order-low)) in-hand-granted in
+      let f = release-managed (top st) k a (omega (arith, row .high)) (omega (arith, r .order-low)) in-hand-granted in
       record {
         value-is = f .compared;
         lists-are = lists-is (f .managed);
@@ -64,17 +71,7 @@ module _ (st : State) (h : Healthy st) (k size a : ℕ) (found : some (same k si
       ManagedBy st (st .heap .total) (record { heads = st .heap .heads; arena = set (st .arena) w v }) (lists (memory st)) (blocksOf (granted st))
   word-stored w v inside = reordered (back (mapped blockOf out)) (store-managed w v inside in-hand-granted)
 
--- a run of stores into words of a block in hand
-run-managed : {order n total : ℕ} {ls : List (List ℕ)} {others : List Block} {k a : ℕ} (heads arena : List ℕ) (w : ℕ) (vs : List ℕ) → a ≤ 8 * w →
-    8 * w + 8 * length vs ≤ a + 2 ^ k →
-    Managed order n total (record { heads = heads; arena = arena }) ls (blk k a ∷ others) →
-    Managed order n total (record { heads = heads; arena = sets arena w vs }) ls (blk k a ∷ others)
-run-managed heads arena w [] from to g = g
-run-managed heads arena w (v ∷ vs) from to g =
-    run-managed heads (set arena w v) (suc w) vs (omega arith) (omega arith) (store-managed w v (record { from = from; to = omega arith }) g)
-
--- "clears the words of the requested bytes, rounded up to whole words", which are words of the block
-module _ (st : State) (h : Healthy st) (k size a : ℕ) (found : some (same k size a) (granted st) ≡ true) where
+  -- "clears the words of the requested bytes, rounded up to whole words", which are words of the block
   abbrev cleared : Memory
   cleared = record { heads = st .heap .heads; arena = take (a / 8) (st .arena) ++ (replicate ((size + 7) / 8) 0 ++ drop (a / 8 + (size + 7) / 8) (st .arena)) }
 
@@ -82,23 +79,22 @@ module _ (st : State) (h : Healthy st) (k size a : ℕ) (found : some (same k si
   Cleared = ManagedBy st (st .heap .total) cleared (lists (memory st)) (blocksOf (granted st))
 
   pub zeroed : Cleared
-  zeroed = go (in-hand (in-hand-granted st h k size a found))
+  zeroed = go (in-hand in-hand-granted)
     where
       zs : List ℕ
       zs = replicate ((size + 7) / 8) 0
 
       go : {bs : List Block} → Placed (st .heap .order) (length (st .arena) * 8) (blk k a ∷ bs) → Cleared
       go (placing.next f b p) =
-          let r = row st h k size a found in
           let starts : a % 2 ^ 3 ≡ 0 = multiple-le 3 k a (f .low) (f .aligned) in
           let eights : 2 ^ k % 2 ^ 3 ≡ 0 = multiple-le 3 k (2 ^ k) (f .low) (multiple (2 ^ k) 1 (2 ^ k) (omega arith)) in
           let l : length zs ≡ (size + 7) / 8 = length-replicate ((size + 7) / 8) 0 in
-          let to : 8 * (a / 8) + 8 * length zs ≤ a + 2 ^ k = omega (arith, r .holds) in
+          let to : 8 * (a / 8) + 8 * length zs ≤ a + 2 ^ k = omega (arith, row .holds) in
           let e : sets (st .arena) (a / 8) zs ≡ cleared .arena =
           sets-eq zs (st .arena) (a / 8) (omega (arith, f .inside)) ∙ append-assoc (take (a / 8) (st .arena)) zs (drop (a / 8 + length zs) (st .arena))
           ∙ ap (λ (c : ℕ). take (a / 8) (st .arena) ++ (zs ++ drop (a / 8 + c) (st .arena))) l in
-          let g = run-managed (st .heap .heads) (st .arena) (a / 8) zs (omega arith) to (in-hand-granted st h k size a found) in
-          rw e at (reordered (back (mapped blockOf (out st h k size a found))) g)
+          let g = run-managed (st .heap .heads) (st .arena) (a / 8) zs (omega arith) to in-hand-granted in
+          rw e at (reordered (back (mapped blockOf out)) g)
 
 -- ---- the calls
 

@@ -1,4 +1,4 @@
--- Every call on a sound heap does what the rules of the lists say and leaves a sound heap; so do making and stores into granted blocks. Assumes nothing.
+-- Every call on a sound heap answers and leaves what the rules of the lists say, and a sound heap; a refused call leaves every word. Assumes nothing.
 use mathlib.Core.Path.{_≡_, refl}
 use mathlib.Core.Bool.{Bool, true, false}
 use mathlib.Core.List.{List}
