@@ -41,7 +41,8 @@ pub(crate) fn take_block(heads: &mut [u64; 33], arena: &mut [u64], from: u64, cl
         };
         heads[k as usize] = first.head;
         k -= 1;
-        push(heads, arena, k, first.block + blocks::size_of(k));
+        let upper = first.block + blocks::size_of(k);
+        push(heads, arena, k, upper);
         push(heads, arena, k, first.block);
     }
     let popped = linked_list::pop(heads[class as usize], arena);

@@ -55,9 +55,9 @@ sub-k c = search needs
 size-of-requires : tie.Need-size-of-requires Inv-loop μ-loop
 size-of-requires c κs = search needs
 
-add-push : tie.Need-add-push Inv-loop μ-loop
-add-push c =
-    let told = c .before .before .before .before .before in
+add-upper : tie.Need-add-upper Inv-loop μ-loop
+add-upper c =
+    let told = c .before .before .before in
     let l = told .before .before .before .before .before .before .loop in
     let s = told .before .before .before .before .before .before .before .before in
     let p = block-popped _ _ _ (sym (told .before .before .pop .ensures) ∙ told .popped .given .1) in
@@ -80,7 +80,7 @@ loop-again c =
     let l = told .before .before .before .before .before .before .loop in
     let s = told .before .before .before .before .before .before .before .before in (
       halving-turn (s .args .from) (s .args .class) (l .k) _ _ _ (l .heads) (l .arena) _ _ (s .pre .is-class) (told .before .before .before .before .before .loop-test .taken) (l .inv .0) (sym (told .before .before .pop .ensures) ∙ told .popped .given .1)
-          (p₁ .before .before .size-of .ensures) (p₁ .push .ensures) (p₂ .push2 .ensures),
+          (p₁ .before .before .before .before .size-of .ensures) (p₁ .push .ensures) (p₂ .push2 .ensures),
       p₂ .push2 .kept .1 .0 ∙ p₁ .push .kept .1 .0 ∙ l .inv .1,
     )
 
@@ -142,7 +142,7 @@ take-block-spec =
     element-write-heads
     sub-k
     size-of-requires
-    add-push
+    add-upper
     push-requires
     push-requires-2
     loop-less
