@@ -15,10 +15,10 @@ use Rattle.heap_state.specs.Lists.{Memory, pushAll}
 use Rattle.heap_state.specs.Sound.{Block, blk, freeBlocks, grantedBlocks, allBlocks}
 use Rattle.heap_state.specs.State.{State}
 use Rattle.heap_core.specs.Deciding.{Decision, refused, done, refuse, judge, memory, bytes, top, roundUp, roundDown, meets, withLists, adding}
-use Rattle.heap_core.specs.Moves.{addingWords}
+use Rattle.heap_core.specs.Parts.{addingWords}
 use Rattle.heap_core.proofs.Judging.{judged-yes, judged-no}
 use Rattle.heap_core.proofs.Overlaps.{meets-append}
-use Rattle.heap_core.proofs.Pushing.{push-end}
+use Rattle.heap_moves.proofs.Pushing.{push-end}
 
 -- ---- the words of the range, once they are known to be some
 

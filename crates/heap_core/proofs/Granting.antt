@@ -25,9 +25,10 @@ use Rattle.heap_state.proofs.Facts.{Sound, sound-fact}
 use Rattle.heap_state.proofs.Heads.{head-placed}
 use Rattle.heap_state.proofs.Counters.{counters-small}
 use Rattle.heap_core.specs.Deciding.{Decision, refused, refuse, judge, memory, classFor, serving, granted, withGrants, granting, carried}
-use Rattle.heap_core.specs.Moves.{mem, Servable, TakenOut, Grantable, grantDone}
+use Rattle.heap_moves.specs.Moves.{mem, Servable, TakenOut}
+use Rattle.heap_core.specs.Parts.{Grantable, grantDone}
 use Rattle.heap_core.proofs.Judging.{judged-yes, judged-no}
-use Rattle.heap_core.proofs.Halving.{halved-head}
+use Rattle.heap_moves.proofs.Halving.{halved-head}
 use Rattle.heap_core.proofs.Requests.{class-word, class-holds, first-same, Serves, found-serves}
 
 -- ---- a sound heap's ledger

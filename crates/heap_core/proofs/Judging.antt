@@ -9,7 +9,7 @@ use Rattle.heap_state.specs.declared.Heap.{Heap}
 use Rattle.heap_state.specs.declared.Reply.{Reply}
 use Rattle.heap_state.specs.State.{State, state, Says}
 use Rattle.heap_core.specs.Deciding.{Decision, refused, done, Check, refuse, judge, carried}
-use Rattle.heap_core.specs.Moves.{refusedWith}
+use Rattle.heap_core.specs.Parts.{refusedWith}
 
 pub judged-yes : (t : Bool) (r : Refusal) (cs : List Check) (d : Decision) → t ≡ true → judge (refuse t r ∷ cs) d ≡ refused r
 judged-yes t r cs d e = rw e

@@ -1,9 +1,5 @@
-pub mod Steps
-pub mod Halving
-pub mod Joining
 pub mod Judging
 pub mod Overlaps
-pub mod Pushing
 pub mod Adding
 pub mod Requests
 pub mod Granting

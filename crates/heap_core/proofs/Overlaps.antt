@@ -16,7 +16,7 @@ use Rattle.ledger.specs.Ledger.{classOf, addressOf, grantOf}
 use Rattle.heap_state.specs.Lists.{Memory, list}
 use Rattle.heap_state.specs.Sound.{Block, blk, blockOf, freeFrom}
 use Rattle.heap_core.specs.Deciding.{meets}
-use Rattle.heap_core.specs.Moves.{meetsBlock}
+use Rattle.heap_core.specs.Parts.{meetsBlock}
 
 -- ---- one block
 

@@ -28,7 +28,7 @@ use Rattle.heap_state.proofs.Facts.{Sound}
 use Rattle.heap_state.proofs.Heads.{Placed, placed-fact, placed-parts}
 use Rattle.heap_state.proofs.Counters.{sums}
 use Rattle.heap_core.specs.Deciding.{Decision, refused, done, refuse, judge, memory, top, classFor, granted, notGranted, withGrants, releasing, zeroing, carried}
-use Rattle.heap_core.specs.Moves.{mem, released}
+use Rattle.heap_moves.specs.Moves.{mem, released}
 use Rattle.heap_core.proofs.Judging.{judged-yes, judged-no, says-done}
 use Rattle.heap_core.proofs.Granting.{kept, grantedHeap}
 

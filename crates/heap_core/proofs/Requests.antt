@@ -15,7 +15,7 @@ use Rattle.blocks.specs.Laws.{Least}
 use Rattle.blocks.proofs.Rounding.{least-class, aligned-is}
 use Rattle.heap_state.specs.Lists.{Memory, head, firstClass}
 use Rattle.heap_core.specs.Deciding.{wanted, classFor}
-use Rattle.heap_core.specs.Moves.{mem}
+use Rattle.heap_moves.specs.Moves.{mem}
 
 -- ---- the class
 

@@ -1,2 +1,2 @@
 pub mod Deciding
-pub mod Moves
+pub mod Parts

@@ -5,13 +5,12 @@ ghost use mathlib.Core.List.{map};
 ghost use Prim.Native.Nat.{_+_, _-_, _*_, _^_, _≤_, _<_};
 ghost use lib.ListN.{length, getD};
 ghost use Rattle.linked_list.specs.Links.{nodes};
-ghost use Rattle.heap_state.specs.Lists.{pushAll};
 ghost use Rattle.ledger.specs.Ledger.{grants};
 ghost use Rattle.heap_state.specs.Sound.{blk, blockOf, freeFrom, soundb};
 ghost use Rattle.heap_state.specs.State.{state, Says};
 ghost use Rattle.heap_core.specs.Deciding.{meets, adding, carried};
-ghost use Rattle.heap_core.specs.Moves.{mem, meetsBlock, addingWords};
-use super::moves::push;
+ghost use Rattle.heap_moves.specs.Moves.{mem};
+ghost use Rattle.heap_core.specs.Parts.{meetsBlock, addingWords};
 use super::refused;
 use answers::Answer;
 use answers::Refusal;
@@ -89,21 +88,6 @@ fn granted_meets(ledger: &[u64], count: u64, start: u64, end: u64) -> bool
     false
 }
 
-// The n bytes from start on are cut into blocks up to class `top`, and each is pushed.
-fn push_pieces(heads: &mut [u64; 33], arena: &mut [u64], top: u64, start: u64, n: u64)
-    requires { ⌜ (top < 33) × (start + n < 2 ^ 64) ⌝ }
-    ensures { λ _. ⌜ mem (now (heads .exit)) (now (arena .exit)) ≡ pushAll n top start n (mem (now (heads .entry)) (now (arena .entry))) ⌝ }
-{
-    let mut from = start;
-    let mut left = n;
-    while 0 < left {
-        let size = blocks::piece(from, left, top);
-        push(heads, arena, blocks::class_of(size), from);
-        from += size;
-        left -= size;
-    }
-}
-
 // The bytes [start, end), rounded to words, are added to a sound heap.
 pub fn add_range(h: Heap, arena: &mut [u64], ledger: &[u64], start: u64, end: u64) -> Reply
     requires { ⌜ soundb h (now arena) (now ledger) ≡ true ⌝ }
@@ -146,7 +130,7 @@ fn add_words(h: Heap, arena: &mut [u64], ledger: &[u64], from: u64, to: u64) -> 
         return refused(h, Refusal::Overlap);
     }
     let mut g = h;
-    push_pieces(&mut g.heads, arena, h.order - 1, from, to - from);
+    heap_moves::push_pieces(&mut g.heads, arena, h.order - 1, from, to - from);
     g.total = h.total + (to - from);
     Reply {
         answer: Answer::Done(0),

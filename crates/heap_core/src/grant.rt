@@ -4,8 +4,7 @@ ghost use mathlib.Core.Bool.{true};
 ghost use Rattle.heap_state.specs.Sound.{soundb};
 ghost use Rattle.heap_state.specs.State.{state, Says};
 ghost use Rattle.heap_core.specs.Deciding.{granting, carried};
-ghost use Rattle.heap_core.specs.Moves.{Grantable, grantDone};
-use super::moves::take_block;
+ghost use Rattle.heap_core.specs.Parts.{Grantable, grantDone};
 use super::refused;
 use super::request::class_for;
 use super::request::first_class;
@@ -49,7 +48,7 @@ fn grant_from(
     ensures { λ r. ⌜ Says (carried (state h (now (arena .entry)) (now (ledger .entry))) (grantDone from class size (state h (now (arena .entry)) (now (ledger .entry))))) r (now (arena .exit)) (now (ledger .exit)) ⌝ }
 {
     let mut g = h;
-    let answer = take_block(&mut g.heads, arena, from, class);
+    let answer = heap_moves::take_block(&mut g.heads, arena, from, class);
     let Answer::Done(block) = answer else {
         return Reply {
             answer: answer,

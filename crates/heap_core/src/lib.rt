@@ -2,12 +2,11 @@
 // nothing, are those of the crate `heap`.
 mod add;
 mod grant;
-mod moves;
 mod release;
 mod request;
 
 ghost use mathlib.Core.Path.{_≡_};
-ghost use Rattle.heap_core.specs.Moves.{refusedWith};
+ghost use Rattle.heap_core.specs.Parts.{refusedWith};
 pub use add::add_range;
 use answers::Answer;
 use answers::Refusal;

@@ -4,7 +4,6 @@ ghost use mathlib.Core.Bool.{true};
 ghost use Rattle.heap_state.specs.Sound.{soundb};
 ghost use Rattle.heap_state.specs.State.{state, Says};
 ghost use Rattle.heap_core.specs.Deciding.{releasing, zeroing, carried};
-use super::moves::release_block;
 use super::refused;
 use super::request::class_for;
 use answers::Answer;
@@ -35,7 +34,7 @@ pub fn release_bytes(
     };
     ledger::strike(ledger, h.count, i);
     let mut g = h;
-    let compared = release_block(&mut g.heads, arena, h.order - 1, class, address);
+    let compared = heap_moves::release_block(&mut g.heads, arena, h.order - 1, class, address);
     g.count = h.count - 1;
     g.user = h.user - size;
     g.allocated = h.allocated - blocks::size_of(class);

@@ -4,7 +4,7 @@ ghost use mathlib.Core.List.{[]};
 ghost use Prim.Native.Nat.{_-_, _≤_};
 ghost use Rattle.heap_state.specs.Lists.{firstClass};
 ghost use Rattle.heap_core.specs.Deciding.{classFor};
-ghost use Rattle.heap_core.specs.Moves.{mem};
+ghost use Rattle.heap_moves.specs.Moves.{mem};
 use blocks::Rounded;
 
 // The class of a size and an alignment: at least that of a word, and 33, a class of no heap, above every block.

@@ -4,7 +4,7 @@ use Prim.Native.Nat.{_-_}
 use denote.Ref.{now}
 use Rattle.heap_state.specs.Sound.{freeFrom}
 use Rattle.heap_core.specs.Deciding.{meets}
-use Rattle.heap_core.specs.Moves.{mem}
+use Rattle.heap_moves.specs.Moves.{mem}
 use Rattle.heap_core.proofs.Overlaps.{free-hit, free-miss, free-none}
 use borrow.Author.Needs.{needs}
 use Rattle.heap_core.proofs.add.free_meets.Statement.{statement}

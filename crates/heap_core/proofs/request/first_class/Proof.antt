@@ -4,7 +4,7 @@ use mathlib.Core.List.{[]}
 use Prim.Native.Nat.{_-_}
 use denote.Ref.{now}
 use Rattle.heap_state.specs.Lists.{firstClass}
-use Rattle.heap_core.specs.Moves.{mem}
+use Rattle.heap_moves.specs.Moves.{mem}
 use Rattle.heap_core.proofs.Requests.{first-here, first-later, first-none}
 use borrow.Author.Needs.{needs}
 use Rattle.heap_core.proofs.request.first_class.Statement.{statement}

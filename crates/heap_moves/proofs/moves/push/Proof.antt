@@ -1,9 +1,9 @@
--- `heap_core::moves::push` meets its contract. Assumes nothing.
+-- `heap_moves::moves::push` meets its contract. Assumes nothing.
 use denote.Ref.{now}
-use Rattle.heap_core.proofs.Steps.{push-is}
+use Rattle.heap_moves.proofs.Steps.{push-is}
 use borrow.Author.Needs.{needs}
-use Rattle.heap_core.proofs.moves.push.Statement.{statement}
-use Rattle.heap_core.proofs.moves.push.Tie as tie
+use Rattle.heap_moves.proofs.moves.push.Statement.{statement}
+use Rattle.heap_moves.proofs.moves.push.Tie as tie
 
 mul-push : tie.Need-mul-push
 mul-push c = search needs

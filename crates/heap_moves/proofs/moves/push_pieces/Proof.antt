@@ -1,15 +1,15 @@
--- `heap_core::add::push_pieces` meets its contract: what is left to push, of what is there, comes to the whole. Assumes nothing.
+-- `heap_moves::moves::push_pieces` meets its contract: what is left to push, of what is there, comes to the whole. Assumes nothing.
 use mathlib.Core.Path.{_≡_, refl, sym, ap, _∙_}
 use Prim.Native.Nat.{ℕ, _+_, _-_}
 use native.Mathlib.Omega.{arith}
 use lib.ListN.{length}
 use denote.Ref.{now}
 use Rattle.heap_state.specs.Lists.{pushAll}
-use Rattle.heap_core.specs.Moves.{mem}
-use Rattle.heap_core.proofs.Pushing.{piece-fits, piece-class, push-turn, push-end}
+use Rattle.heap_moves.specs.Moves.{mem}
+use Rattle.heap_moves.proofs.Pushing.{piece-fits, piece-class, push-turn, push-end}
 use borrow.Author.Needs.{needs}
-use Rattle.heap_core.proofs.add.push_pieces.Statement.{statement}
-use Rattle.heap_core.proofs.add.push_pieces.Tie as tie
+use Rattle.heap_moves.proofs.moves.push_pieces.Statement.{statement}
+use Rattle.heap_moves.proofs.moves.push_pieces.Tie as tie
 
 abbrev Inv-loop : tie.InvT-loop
 Inv-loop heads₀ arena₀ top start n from₀ left₀ heads arena from left =

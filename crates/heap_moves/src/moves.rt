@@ -1,16 +1,16 @@
-// Blocks moved between the lists of a heap: one onto a list, a whole grant's, a whole release's.
+// Blocks moved between the lists of a heap: those of an added range, of a grant, of a release.
 ghost use mathlib.Core.Path.{_≡_};
 ghost use Prim.Native.Nat.{_+_, _-_, _^_, _≤_, _<_};
 ghost use lib.ListN.{length, getD};
-ghost use Rattle.heap_state.specs.Lists.{head, push, pop, splitDown, Released, release};
-ghost use Rattle.heap_core.specs.Moves.{mem, Servable, TakenOut, takenOut, released};
+ghost use Rattle.heap_state.specs.Lists.{push, pop, pushAll, release};
+ghost use Rattle.heap_moves.specs.Moves.{mem, Servable, TakenOut, takenOut, released};
 use answers::Answer;
 use answers::Refusal;
 use linked_list::Popped;
 use linked_list::Previous;
 
 // The block becomes the first of its class.
-pub(crate) fn push(heads: &mut [u64; 33], arena: &mut [u64], class: u64, block: u64)
+fn push(heads: &mut [u64; 33], arena: &mut [u64], class: u64, block: u64)
     requires { ⌜ class < 33 ⌝ }
     ensures { λ _. ⌜ mem (now (heads .exit)) (now (arena .exit)) ≡ push class block (mem (now (heads .entry)) (now (arena .entry))) ⌝ }
 {
@@ -19,7 +19,7 @@ pub(crate) fn push(heads: &mut [u64; 33], arena: &mut [u64], class: u64, block: 
 }
 
 // The first block of the class leaves its list.
-pub(crate) fn drop_first(heads: &mut [u64; 33], arena: &[u64], class: u64)
+fn drop_first(heads: &mut [u64; 33], arena: &[u64], class: u64)
     requires { ⌜ class < 33 ⌝ }
     ensures { λ _. ⌜ mem (now (heads .exit)) (now (arena .entry)) ≡ pop class (mem (now (heads .entry)) (now (arena .entry))) ⌝ }
 {
@@ -29,7 +29,7 @@ pub(crate) fn drop_first(heads: &mut [u64; 33], arena: &[u64], class: u64)
 
 // The first block of class `from` is halved down to `class`, each time the upper half pushed and then the lower, and the block of `class`
 // that comes out is taken from its list. A list that has no block stops it.
-pub(crate) fn take_block(heads: &mut [u64; 33], arena: &mut [u64], from: u64, class: u64) -> Answer
+pub fn take_block(heads: &mut [u64; 33], arena: &mut [u64], from: u64, class: u64) -> Answer
     requires { ⌜ Servable (mem (now heads) (now arena)) from class ⌝ }
     ensures { λ r. ⌜ TakenOut from class (mem (now (heads .entry)) (now (arena .entry))) r (mem (now (heads .exit)) (now (arena .exit))) ⌝ }
 {
@@ -63,7 +63,7 @@ fn take_out(heads: &mut [u64; 33], arena: &mut [u64], class: u64, previous: Prev
 }
 
 // The block becomes free, and is joined with its buddy as long as that is free too, below class `top`. Answers how many nodes were compared.
-pub(crate) fn release_block(
+pub fn release_block(
     heads: &mut [u64; 33],
     arena: &mut [u64],
     top: u64,
@@ -93,4 +93,19 @@ pub(crate) fn release_block(
         push(heads, arena, k, low);
     }
     compared
+}
+
+// The n bytes from start on are cut into blocks up to class `top`, and each is pushed.
+pub fn push_pieces(heads: &mut [u64; 33], arena: &mut [u64], top: u64, start: u64, n: u64)
+    requires { ⌜ (top < 33) × (start + n < 2 ^ 64) ⌝ }
+    ensures { λ _. ⌜ mem (now (heads .exit)) (now (arena .exit)) ≡ pushAll n top start n (mem (now (heads .entry)) (now (arena .entry))) ⌝ }
+{
+    let mut from = start;
+    let mut left = n;
+    while 0 < left {
+        let size = blocks::piece(from, left, top);
+        push(heads, arena, blocks::class_of(size), from);
+        from += size;
+        left -= size;
+    }
 }

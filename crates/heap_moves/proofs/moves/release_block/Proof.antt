@@ -1,15 +1,15 @@
--- `heap_core::moves::release_block` meets its contract: the joins to come, with the count so far, come to the whole release. Assumes nothing.
+-- `heap_moves::moves::release_block` meets its contract: the joins to come, with the count so far, come to the whole release. Assumes nothing.
 use mathlib.Core.Path.{_≡_, refl, sym, ap, _∙_}
 use Prim.Native.Nat.{ℕ, _+_, _-_}
 use native.Mathlib.Omega.{arith}
 use lib.ListN.{length}
 use denote.Ref.{now}
 use borrow.Author.Tests.{not-true, not-false}
-use Rattle.heap_core.specs.Moves.{mem}
-use Rattle.heap_core.proofs.Joining.{Joins, joins-start, join-miss, join-hit, join-none, looked-few, release-is}
+use Rattle.heap_moves.specs.Moves.{mem}
+use Rattle.heap_moves.proofs.Joining.{Joins, joins-start, join-miss, join-hit, join-none, looked-few, release-is}
 use borrow.Author.Needs.{needs}
-use Rattle.heap_core.proofs.moves.release_block.Statement.{statement}
-use Rattle.heap_core.proofs.moves.release_block.Tie as tie
+use Rattle.heap_moves.proofs.moves.release_block.Statement.{statement}
+use Rattle.heap_moves.proofs.moves.release_block.Tie as tie
 
 abbrev Inv-loop : tie.InvT-loop
 Inv-loop heads₀ arena₀ top class block k₀ low₀ compared₀ heads arena k low compared =

@@ -5,7 +5,7 @@ use Prim.Native.Nat.{ℕ}
 use lib.ListN.{getD, set}
 use Rattle.linked_list.specs.Links.{next, pushed, removed, Left}
 use Rattle.heap_state.specs.Lists.{head, push, pop}
-use Rattle.heap_core.specs.Moves.{mem}
+use Rattle.heap_moves.specs.Moves.{mem}
 
 pub push-is : (heads arena words : List ℕ) (class block first : ℕ) → Left (pushed (getD heads class 0) arena block) first words
     → mem (set heads class first) words ≡ push class block (mem heads arena)

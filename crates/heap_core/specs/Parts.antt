@@ -1,46 +1,20 @@
--- Forms of the promises of the parts in src/: heads and arena as one memory.
+-- Forms of the promises of the parts in src/.
 use mathlib.Core.Path.{_≡_}
 use mathlib.Core.Bool.{Bool, true, _&&_}
-use mathlib.Core.List.{List, [], _∷_}
+use mathlib.Core.List.{[], _∷_}
 use Prim.Native.Nat.{ℕ, _+_, _-_, _^_, _≤_, _<_}
 use lib.Dec.{ltb}
 use lib.ListN.{length}
-use Rattle.answers.specs.declared.Answer.{Answer}
-use Rattle.answers.specs.declared.Answer.the-variants.{Done, Refused}
+use Rattle.answers.specs.declared.Answer.the-variants.{Refused}
 use Rattle.answers.specs.declared.Refusal.{Refusal}
 use Rattle.answers.specs.declared.Refusal.the-variants.{Overlap}
+use Rattle.ledger.specs.Ledger.{grant, enter}
 use Rattle.heap_state.specs.declared.Heap.{Heap}
 use Rattle.heap_state.specs.declared.Reply.{Reply}
-use Rattle.ledger.specs.Ledger.{grant, enter}
-use Rattle.linked_list.specs.declared.Previous.{Previous}
-use Rattle.linked_list.specs.Links.{removed}
-use Rattle.heap_state.specs.Lists.{Memory, head, withList, pop, pushAll, splitDown, Released}
+use Rattle.heap_state.specs.Lists.{head, pop, pushAll, splitDown}
 use Rattle.heap_state.specs.Sound.{allBlocks}
 use Rattle.heap_state.specs.State.{State, isSound}
 use Rattle.heap_core.specs.Deciding.{Decision, done, refuse, judge, meets, memory, top, granted, withLists, withGrants}
-
-abbrev pub mem : List ℕ → List ℕ → Memory
-mem heads arena = record { heads = heads; arena = arena }
-
--- class `from` has a block, large enough for `class`, whose end is a number of 64 bits
-pub record Servable (m : Memory) (from class : ℕ) : Type 0 where
-  pub suffices : class ≤ from
-  pub is-class : from < 33
-  pub has-block : head from m ≡ 0 → ⊥
-  pub wide : length (m .heads) ≡ 33
-  pub ends : head from m + 2 ^ from < 2 ^ 64
-
--- the answer is the block that came out, and the memory is without it
-pub record TakenOut (from class : ℕ) (m : Memory) (r : Answer) (after : Memory) : Type 0 where
-  pub answer : r ≡ Done (head class (splitDown (from - class) class m))
-  pub memory : after ≡ pop class (splitDown (from - class) class m)
-
--- a node taken out of the list of its class, by the place of the link to it
-unfoldable pub takenOut : ℕ → Previous → ℕ → Memory → Memory
-takenOut class previous node m = withList class (removed (head class m) (m .arena) previous node) m
-
-abbrev pub released : ℕ → Memory → Released
-released compared m = record { memory = m; nodes-compared = compared }
 
 -- a block of `size` bytes at the address has a byte in [start, end), which is not empty
 abbrev pub meetsBlock : ℕ → ℕ → ℕ → ℕ → Bool

@@ -1,14 +1,14 @@
--- `heap_core::moves::take_block` meets its contract: the halves still to be made of what is there come to the whole. Assumes nothing.
+-- `heap_moves::moves::take_block` meets its contract: the halves still to be made of what is there come to the whole. Assumes nothing.
 use mathlib.Core.Path.{_≡_, refl, sym, ap, _∙_}
 use Prim.Native.Nat.{ℕ, _+_, _-_}
 use native.Mathlib.Omega.{arith}
 use lib.ListN.{length}
 use denote.Ref.{now}
-use Rattle.heap_core.specs.Moves.{mem}
-use Rattle.heap_core.proofs.Halving.{Halving, halving-start, halving-turn, upper-fits, taken, nothing-popped, block-popped}
+use Rattle.heap_moves.specs.Moves.{mem}
+use Rattle.heap_moves.proofs.Halving.{Halving, halving-start, halving-turn, upper-fits, taken, nothing-popped, block-popped}
 use borrow.Author.Needs.{needs}
-use Rattle.heap_core.proofs.moves.take_block.Statement.{statement}
-use Rattle.heap_core.proofs.moves.take_block.Tie as tie
+use Rattle.heap_moves.proofs.moves.take_block.Statement.{statement}
+use Rattle.heap_moves.proofs.moves.take_block.Tie as tie
 
 abbrev Inv-loop : tie.InvT-loop
 Inv-loop heads₀ arena₀ from class k₀ heads arena k = Halving from class (mem heads₀ arena₀) (mem heads arena) k × (length arena ≡ length arena₀)

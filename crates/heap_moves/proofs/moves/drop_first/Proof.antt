@@ -1,9 +1,9 @@
--- `heap_core::moves::drop_first` meets its contract. Assumes nothing.
+-- `heap_moves::moves::drop_first` meets its contract. Assumes nothing.
 use denote.Ref.{now}
-use Rattle.heap_core.proofs.Steps.{pop-is}
+use Rattle.heap_moves.proofs.Steps.{pop-is}
 use borrow.Author.Needs.{needs}
-use Rattle.heap_core.proofs.moves.drop_first.Statement.{statement}
-use Rattle.heap_core.proofs.moves.drop_first.Tie as tie
+use Rattle.heap_moves.proofs.moves.drop_first.Statement.{statement}
+use Rattle.heap_moves.proofs.moves.drop_first.Tie as tie
 
 mul-next : tie.Need-mul-next
 mul-next c = search needs

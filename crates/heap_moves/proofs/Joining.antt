@@ -11,7 +11,7 @@ use Rattle.linked_list.specs.declared.Previous.{Previous}
 use Rattle.linked_list.specs.declared.Search.{Search}
 use Rattle.linked_list.proofs.Chains.{nodes-few}
 use Rattle.heap_state.specs.Lists.{Memory, head, list, stands, push, pop, remove, joinUp, release, Released}
-use Rattle.heap_core.specs.Moves.{mem, takenOut, released}
+use Rattle.heap_moves.specs.Moves.{mem, takenOut, released}
 
 pub taken-out-is : (heads arena words : List ℕ) (class node first : ℕ) (previous : Previous) → Left (removed (getD heads class 0) arena previous node) first words
     → mem (set heads class first) words ≡ takenOut class previous node (mem heads arena)

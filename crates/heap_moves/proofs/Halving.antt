@@ -13,8 +13,8 @@ use Rattle.heap_state.specs.Lists.{Memory, head, push, pop, split, splitDown}
 use Rattle.answers.specs.declared.Answer.the-variants.{Done}
 use Rattle.blocks.specs.Blocks.{sizeOf}
 use Rattle.blocks.proofs.Rounding.{size-is}
-use Rattle.heap_core.specs.Moves.{mem, TakenOut}
-use Rattle.heap_core.proofs.Steps.{pop-is}
+use Rattle.heap_moves.specs.Moves.{mem, TakenOut}
+use Rattle.heap_moves.proofs.Steps.{pop-is}
 
 -- the first block of class k is the one that is halved, and the halvings still to come, of what is there, make what all of them make
 pub record Halving (from class : ℕ) (before now : Memory) (k : ℕ) : Type 0 where

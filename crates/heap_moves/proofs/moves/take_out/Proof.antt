@@ -1,9 +1,9 @@
--- `heap_core::moves::take_out` meets its contract. Assumes nothing.
+-- `heap_moves::moves::take_out` meets its contract. Assumes nothing.
 use denote.Ref.{now}
-use Rattle.heap_core.proofs.Joining.{taken-out-is}
+use Rattle.heap_moves.proofs.Joining.{taken-out-is}
 use borrow.Author.Needs.{needs}
-use Rattle.heap_core.proofs.moves.take_out.Statement.{statement}
-use Rattle.heap_core.proofs.moves.take_out.Tie as tie
+use Rattle.heap_moves.proofs.moves.take_out.Statement.{statement}
+use Rattle.heap_moves.proofs.moves.take_out.Tie as tie
 
 mul-remove : tie.Need-mul-remove
 mul-remove c = search needs

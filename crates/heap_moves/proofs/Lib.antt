@@ -1,0 +1,4 @@
+pub mod Steps
+pub mod Halving
+pub mod Joining
+pub mod Pushing
