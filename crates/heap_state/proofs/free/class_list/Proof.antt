@@ -24,7 +24,7 @@ returns-2 : tie.Need-returns-2
 returns-2 c =
     let t = c .before in
     let a = t .before .before .before .args in
-    wrong-is (c .wrong .ensures) (class-low (a .order) (a .class) (a .arena .now) (a .head) (t .before .if1 .left) (t .if2 .taken))
+    wrong-is (c .wrong .ensures) (class-low (a .order) (a .class) (a .arena .now) (a .head) (t .before .if1 .left) (omega arith))
 
 wrong-requires-2 : tie.Need-wrong-requires-2
 wrong-requires-2 c κs = search needs
@@ -33,7 +33,7 @@ returns-3 : tie.Need-returns-3
 returns-3 c =
     let t = c .before in
     let a = t .before .before .before .before .args in
-    wrong-is (c .wrong2 .ensures) (class-high (a .order) (a .class) (a .arena .now) (a .head) (t .before .before .if1 .left) (t .if3 .taken))
+    wrong-is (c .wrong2 .ensures) (class-high (a .order) (a .class) (a .arena .now) (a .head) (t .before .before .if1 .left) (omega arith))
 
 walk-requires : tie.Need-walk-requires
 walk-requires c κs = search needs
