@@ -1,12 +1,10 @@
 -- A promise admits one outcome only, and any chain of events in which each call meets its promise has the replies and the last state of the
 -- definition's run. Assumes nothing.
 use mathlib.Core.Path.{_≡_, refl, sym, ap, ap₂, _∙_}
-use mathlib.Core.List.{List, [], _∷_}
+use mathlib.Core.List.{List, _∷_}
 use Prim.Native.Nat.{ℕ}
-use Rattle.answers.specs.declared.Answer.{Answer}
 use Rattle.answers.specs.Paper.{Paper, paper}
 use Rattle.answers.proofs.Apart.{tells-apart}
-use Rattle.heap_state.specs.declared.Heap.{Heap}
 use Rattle.heap_state.specs.declared.Reply.{Reply}
 use Rattle.heap_state.specs.State.{State, state, Outcome, Says}
 use Rattle.heap.specs.Told.{Event, replies, last, Chain, done, call, write}

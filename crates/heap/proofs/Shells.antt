@@ -11,7 +11,7 @@ use Rattle.answers.specs.declared.Refusal.the-variants.{BadState, BadRange}
 use Rattle.heap_state.specs.declared.Heap.{Heap}
 use Rattle.heap_state.specs.declared.Reply.{Reply}
 use Rattle.heap_state.specs.Sound.{soundb}
-use Rattle.heap_state.specs.State.{State, state, Says}
+use Rattle.heap_state.specs.State.{state, Says}
 use Rattle.heap_state.proofs.Facts.{sound-fact}
 use Rattle.heap_core.specs.Deciding.{refused, done, carried, adding}
 use Rattle.heap_core.proofs.Adding.{start-outside, end-outside}

@@ -6,7 +6,7 @@ use Rattle.answers.specs.declared.Answer.{Answer}
 use Rattle.answers.specs.Paper.{Paper, paper}
 use Rattle.heap_state.specs.declared.Heap.{Heap}
 use Rattle.heap_state.specs.declared.Reply.{Reply}
-use Rattle.heap_state.specs.State.{State, state, Outcome, Says}
+use Rattle.heap_state.specs.State.{State, state, Says}
 use Rattle.heap.specs.Outcome.{Call, outcome}
 
 -- the promise of a call: from the state before to the reply and the words after

@@ -1,20 +1,19 @@
 -- What is decided of an added range, by the tests that the code makes. Assumes nothing.
-use mathlib.Core.Path.{_≡_, refl, sym, ap, _∙_}
+use mathlib.Core.Path.{_≡_, refl, sym, _∙_}
 use mathlib.Core.Bool.{Bool, true, false, _&&_, _||_}
-use mathlib.Core.List.{List, [], _∷_, _++_}
-use Prim.Native.Nat.{ℕ, _+_, _-_, _*_, _≤_, _<_}
+use mathlib.Core.List.{List, [], _∷_}
+use Prim.Native.Nat.{ℕ, _+_, _-_, _≤_, _<_}
 use mathlib.Core.Logic.{⊎-elim}
 use native.Mathlib.Nat.{eq-zero-or-pos, add-zero}
 use native.Mathlib.Omega.{arith}
 use lib.Dec.{eqb, ltb}
-use lib.ListN.{length}
 use borrow.Author.Tests.{lt-ltb, le-ltb, eq-eqb, ne-eqb}
 use Rattle.words.proofs.Tests.{and-false}
 use Rattle.answers.specs.declared.Refusal.the-variants.{BadRange, NullStart, Overlap}
-use Rattle.heap_state.specs.Lists.{Memory, pushAll}
+use Rattle.heap_state.specs.Lists.{pushAll}
 use Rattle.heap_state.specs.Sound.{Block, blk, freeBlocks, grantedBlocks, allBlocks}
 use Rattle.heap_state.specs.State.{State}
-use Rattle.heap_core.specs.Deciding.{Decision, refused, done, refuse, judge, memory, bytes, top, roundUp, roundDown, meets, withLists, adding}
+use Rattle.heap_core.specs.Deciding.{Decision, refused, done, refuse, memory, bytes, top, roundUp, roundDown, meets, withLists, adding}
 use Rattle.heap_core.specs.Parts.{addingWords}
 use Rattle.heap_core.proofs.Judging.{judged-yes, judged-no}
 use Rattle.heap_core.proofs.Overlaps.{meets-append}

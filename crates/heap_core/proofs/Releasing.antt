@@ -13,20 +13,18 @@ use Rattle.answers.specs.declared.Refusal.the-variants.{BadAlign, NotGranted}
 use Rattle.blocks.specs.Blocks.{isPowerOfTwo, sizeOf}
 use Rattle.blocks.proofs.Powers.{multiple-le}
 use Rattle.blocks.proofs.Rounding.{size-is}
-use Rattle.ledger.specs.declared.Found.{Found}
 use Rattle.ledger.specs.declared.Found.the-variants.{At, Nowhere}
 use Rattle.ledger.specs.Ledger.{Grant, grant, same, strike, some, ledgerWords}
-use Rattle.ledger.specs.Kept.{search, later, isAt}
+use Rattle.ledger.specs.Kept.{search, isAt}
 use Rattle.ledger.proofs.Grants.{Records, none, next}
 use Rattle.ledger.proofs.Searching.{same-fact, search-some, search-within, later-at, strike-at}
 use Rattle.ledger.proofs.Ledgers.{kept-records, length-grants}
 use Rattle.ledger.proofs.Keeping.{length-strike}
 use Rattle.heap_state.specs.Lists.{Released, release}
-use Rattle.heap_state.specs.Sound.{Block, blk, blockOf, placedb, bytesOf, requests, freeBlocks, grantedBlocks}
+use Rattle.heap_state.specs.Sound.{blockOf, placedb, bytesOf, requests, freeBlocks, grantedBlocks}
 use Rattle.heap_state.specs.State.{State, Says}
 use Rattle.heap_state.proofs.Facts.{Sound}
 use Rattle.heap_state.proofs.Heads.{Placed, placed-fact, placed-parts}
-use Rattle.heap_state.proofs.Counters.{sums}
 use Rattle.heap_core.specs.Deciding.{Decision, refused, done, refuse, judge, memory, top, classFor, granted, notGranted, withGrants, releasing, zeroing, carried}
 use Rattle.heap_moves.specs.Moves.{mem, released}
 use Rattle.heap_core.proofs.Judging.{judged-yes, judged-no, says-done}

@@ -1,7 +1,7 @@
 -- The class of a request, and the first class with a block, at the numbers as the code has them. Assumes nothing.
 use mathlib.Core.Path.{_≡_, refl, sym, ap, _∙_}
 use mathlib.Core.Bool.{Bool, true, false}
-use mathlib.Core.List.{List, []}
+use mathlib.Core.List.{List}
 use Prim.Native.Nat.{ℕ, zero, suc, _+_, _-_, _^_, _≤_, _<_, max}
 use native.Mathlib.Omega.{arith}
 use lib.Dec.{eqb}
@@ -10,7 +10,7 @@ use lib.ListN.{getD}
 use borrow.Author.Tests.{eq-eqb, ne-eqb, eqb-false}
 use Rattle.blocks.specs.declared.Rounded.{Rounded}
 use Rattle.blocks.specs.declared.Rounded.the-variants.{Class, Above}
-use Rattle.blocks.specs.Blocks.{rounded, roundedAligned}
+use Rattle.blocks.specs.Blocks.{roundedAligned}
 use Rattle.blocks.specs.Laws.{Least}
 use Rattle.blocks.proofs.Rounding.{least-class, aligned-is}
 use Rattle.heap_state.specs.Lists.{Memory, head, firstClass}

@@ -1,20 +1,21 @@
 -- A grant put into the ledger or struck out of it: the others stay, in their order. Assumes nothing.
-use mathlib.Core.Path.{_≡_, refl, ap, _∙_, subst}
-use mathlib.Core.Bool.{Bool, true, false, _&&_}
+use mathlib.Core.Path.{_≡_, refl, ap, _∙_}
+use mathlib.Core.Bool.{Bool, true, false}
 use mathlib.Core.List.{List, [], _∷_, map}
-use Prim.Native.Nat.{ℕ, suc, _≤_}
+use Prim.Native.Nat.{ℕ}
 use native.Mathlib.Omega.{arith}
 use lib.Pow.{pow-pos}
 use lib.Dec.{eqb, ltb}
-use borrow.Author.Tests.{ltb-true, ltb-false, eqb-true}
-use Rattle.words.proofs.Tests.{both}
+use borrow.Author.Tests.{ne-eqb}
 use Rattle.ledger.specs.Ledger as ledger
 use Rattle.ledger.specs.Ledger.{Grant, grant, enter, strike, some}
+use Rattle.ledger.specs.Kept.{standsAt}
+use Rattle.ledger.proofs.Grants.{Fine, Records, none, next}
+use Rattle.ledger.proofs.Searching.{same-fact}
 use Rattle.heap_state.specs.Sound.{Block, blk, blockOf, requests}
 use Rattle.heap_laws.proofs.Shuffles.{_~_, same, keep, swap, then}
 use Rattle.heap_laws.proofs.Placing as placing
 use Rattle.heap_laws.proofs.Placing.{Apart, under, over, Beside, Placed}
-use Rattle.heap_laws.proofs.Ledgers.{Row, Rows, none, next}
 
 abbrev pub blocksOf : List Grant → List Block
 blocksOf gs = map blockOf gs
@@ -36,43 +37,25 @@ module _ (k n a : ℕ) where
       go true e rest = rw (e, enter) same
       go false e rest = rw (e, enter) (then (swap (grant k n a) (grant j m b)) (keep (grant j m b) rest))
 
-  after-it : (j b : ℕ) → Apart (blk k a) (blk j b) → b ≤ a → suc b ≤ a
-  after-it j b (under h) l = omega (arith, pow-pos k)
-  after-it j b (over h) l = omega (arith, pow-pos j)
-
-  -- a block beside the granted ones comes to its place
-  pub entered-rows : {order floor : ℕ} {gs : List Grant} → Row order k n a → floor ≤ a → Rows order floor gs → Beside (blk k a) (blocksOf gs) →
-      Rows order floor (enter (grant k n a) gs)
-  entered-rows r l none b = next r l none
-  entered-rows {order} {floor} r l (next {k = j} {n = m} {a = c} {gs} q g rest) (placing.next h b) = go (ltb a c) refl (λ l′. entered-rows r l′ rest b)
-    where
-      go : (t : Bool) → ltb a c ≡ t → (suc c ≤ a → Rows order (suc c) (enter (grant k n a) gs)) → Rows order floor (enter (grant k n a) (grant j m c ∷ gs))
-      go true e ih = rw (e, enter) (next r l (next q (ltb-true a c e) rest))
-      go false e ih = rw (e, enter) (next q g (ih (after-it j c h (ltb-false a c e))))
+-- a block beside the granted ones stands at an address of its own
+pub beside-fresh : (k a : ℕ) (gs : List Grant) → Beside (blk k a) (blocksOf gs) → some (standsAt a) gs ≡ false
+beside-fresh k a [] b = refl
+beside-fresh k a (grant j m c ∷ gs) (placing.next h b) =
+    let q : eqb c a ≡ false = ne-eqb c a (other h) in
+    rw (q, some) (beside-fresh k a gs b)
+  where
+    other : Apart (blk k a) (blk j c) → c ≡ a → ⊥
+    other (under l) e = omega (arith, pow-pos k)
+    other (over l) e = omega (arith, pow-pos j)
 
 -- ---- striking
-
-lower-rows : {order floor floor′ : ℕ} {gs : List Grant} → floor′ ≤ floor → Rows order floor gs → Rows order floor′ gs
-lower-rows l none = none
-lower-rows {floor′} l (next {a} r h rest) = let g : floor′ ≤ a = omega arith in next r g rest
-
-pub struck-rows : {order floor : ℕ} {gs : List Grant} (p : Grant → Bool) → Rows order floor gs → Rows order floor (strike p gs)
-struck-rows p none = none
-struck-rows {order} {floor} p (next {k} {n} {a} {gs} r h rest) = go (p (grant k n a)) refl (struck-rows p rest)
-  where
-    go : (t : Bool) → p (grant k n a) ≡ t → Rows order (suc a) (strike p gs) → Rows order floor (strike p (grant k n a ∷ gs))
-    go true e ih = rw (e, strike) (lower-rows (omega arith) ih)
-    go false e ih = rw (e, strike) (next r h ih)
 
 module _ (k n a : ℕ) where
   abbrev test : Grant → Bool
   test g = ledger.same k n a g
 
   is-it : (j m b : ℕ) → test (grant j m b) ≡ true → grant j m b ≡ grant k n a
-  is-it j m b e =
-      let p = both (eqb j k && eqb m n) (eqb b a) e in
-      let q = both (eqb j k) (eqb m n) (p .0) in
-      λ i. grant (eqb-true j k (q .0) i) (eqb-true m n (q .1) i) (eqb-true b a (p .1) i)
+  is-it j m b e = let q = same-fact k n a j m b e in λ i. grant (q .0 i) (q .1 i) (q .2 i)
 
   -- no block is beside itself
   not-beside : Apart (blk k a) (blk k a) → ⊥
@@ -100,13 +83,10 @@ module _ (k n a : ℕ) where
           rw (h, strike, struck-none gs b′, q) same
       go false h ih = rw (h, strike) (then (keep (grant j m c) (ih (rw (h, some) at e))) (swap (grant j m c) (grant k n a)))
 
-  pub row-of : {order floor : ℕ} {gs : List Grant} → Rows order floor gs → some test gs ≡ true → Row order k n a
-  row-of none e = absurd (let z : _≡_ {A = ℕ} 0 1 = cc in omega arith)
-  row-of {order} (next {k = j} {n = m} {a = c} {gs} r h rest) e = go (test (grant j m c)) refl (λ found. row-of rest found)
+  pub fine-of : {order floor : ℕ} {gs : List Grant} → Records order floor gs → some test gs ≡ true → Fine order k n
+  fine-of none e = absurd (let z : _≡_ {A = ℕ} 0 1 = cc in omega arith)
+  fine-of {order} (next {k = j} {n = m} {a = c} {gs} l s f rest) e = go (test (grant j m c)) refl (λ found. fine-of rest found)
     where
-      row : Grant → Type 0
-      row g = Row order (ledger.class g) (ledger.requested g) (ledger.address g)
-
-      go : (t : Bool) → test (grant j m c) ≡ t → (some test gs ≡ true → Row order k n a) → Row order k n a
-      go true q ih = subst row (is-it j m c q) r
+      go : (t : Bool) → test (grant j m c) ≡ t → (some test gs ≡ true → Fine order k n) → Fine order k n
+      go true q ih = let w = same-fact k n a j m c q in rw (← w .0, ← w .1) f
       go false q ih = ih (rw (q, some) at e)

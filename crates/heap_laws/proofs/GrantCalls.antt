@@ -2,57 +2,35 @@
 use mathlib.Core.Path.{_≡_, sym, ap}
 use mathlib.Core.Bool.{not}
 use mathlib.Core.List.{List, _∷_, _++_}
-use Prim.Native.Nat.{ℕ, _+_, _-_, _*_, _^_, _≤_, _<_, max}
+use Prim.Native.Nat.{ℕ, _+_, _-_, _*_, _^_, _≤_, _<_}
 use native.Mathlib.Omega.{arith}
-use lib.Pow.{pow-mono}
 use lib.Dec.{leb}
 use lib.ListN.{length, getD}
 use borrow.Author.Tests.{leb-false}
 use Rattle.answers.specs.declared.Refusal.the-variants.{BadAlign, NoBlock, NoRoom}
-use Rattle.blocks.specs.Blocks.{rounded, roundedAligned, isPowerOfTwo}
-use Rattle.blocks.specs.declared.Rounded.{Rounded}
-use Rattle.blocks.specs.declared.Rounded.the-variants.{Class, Above}
-use Rattle.blocks.proofs.Rounding.{aligned-is, least-class}
+use Rattle.blocks.specs.Blocks.{isPowerOfTwo}
 use Rattle.ledger.specs.Ledger.{grant, enter}
 use Rattle.heap_state.specs.Lists.{Memory, head, splitDown}
 use Rattle.heap_state.specs.Sound.{blk, blockOf}
 use Rattle.heap_state.specs.State.{State}
-use Rattle.heap_core.specs.Deciding.{memory, granted, wanted, classFor, serving, withGrants, grantedFrom, granting}
+use Rattle.heap_core.specs.Deciding.{memory, granted, classFor, serving, withGrants, grantedFrom, granting}
 use Rattle.heap.specs.Outcome.{Alloc}
 use Rattle.heap_laws.specs.ListRules.{lists, first, grantL}
 use Rattle.heap_laws.specs.Claims.{Healthy, Follows, servedBy, listsAfter, valueAfter}
 use Rattle.heap_laws.proofs.Shuffles.{same-length, mapped, same-bytes}
+use Rattle.ledger.proofs.Grants.{Fine}
+use Rattle.ledger.proofs.Keeping.{records-enter}
+use Rattle.heap_core.proofs.Requests.{class-word, class-holds}
 use Rattle.heap_laws.proofs.Placing as placing
 use Rattle.heap_laws.proofs.Placing.{Placed, beside-rest}
 use Rattle.heap_laws.proofs.Free.{freeOf}
 use Rattle.heap_laws.proofs.Managing.{in-hand, reordered}
 use Rattle.heap_laws.proofs.Granting.{serving-is, Serves, serves, grant-managed}
 use Rattle.heap_laws.proofs.Adding.{not-either}
-use Rattle.heap_laws.proofs.Ledgers.{Row}
 use Rattle.heap_laws.proofs.Entries as entries
-use Rattle.heap_laws.proofs.Entries.{blocksOf, same-requests, entered-rows}
+use Rattle.heap_laws.proofs.Entries.{blocksOf, same-requests, beside-fresh}
 use Rattle.heap_laws.proofs.Sounds.{ManagedBy, lists-is}
 use Rattle.heap_laws.proofs.Keeping.{holds, kept-grants, granted-length, Right, does, judged}
-
--- ---- the class of a request
-
-wanted-low : (r : Rounded) → 3 ≤ wanted r
-wanted-low (Class k) = omega arith
-wanted-low Above = omega arith
-
-pub class-low : (size align : ℕ) → 3 ≤ classFor size align
-class-low size align = wanted-low (roundedAligned size align)
-
-wanted-holds : (size align : ℕ) (r : Rounded) → rounded (max size align) ≡ r → wanted r < 33 → size ≤ 2 ^ wanted r
-wanted-holds size align (Class k) e h =
-    let l = least-class (max size align) k e in
-    let p : 2 ^ k ≤ 2 ^ max 3 k = pow-mono {i = k} {j = max 3 k} (omega arith) in
-    omega (arith, l .holds)
-wanted-holds size align Above e h = absurd (omega arith)
-
--- a block of the class holds the request
-class-holds : (size align : ℕ) → classFor size align < 33 → size ≤ 2 ^ classFor size align
-class-holds size align h = wanted-holds size align (roundedAligned size align) (sym (aligned-is size align)) h
 
 module _ (st : State) (h : Healthy st) (k size : ℕ) (low : 3 ≤ k) (holds-it : size ≤ 2 ^ k) where
   -- a block in hand beside the granted ones is entered
@@ -66,16 +44,16 @@ module _ (st : State) (h : Healthy st) (k size : ℕ) (low : 3 ≤ k) (holds-it 
       go (placing.next f b p) =
           let hd = holds st h in
           let r = hd .ranges in
-          let row : Row (st .heap .order) k size a = record {
+          let fine : Fine (st .heap .order) k size = record {
             low = low;
             high = f .high;
             holds = holds-it;
-            short = omega (arith, f .inside, r .arena-high);
-            near = omega (arith, f .inside, r .arena-high);
+            fits = omega (arith, f .inside, r .arena-high);
           } in
+          let fresh = beside-fresh k a (granted st) (beside-rest (freeOf 0 ls) (blocksOf (granted st)) b) in
           let s = entries.entered k size a (granted st) in
           let blocks = mapped blockOf s in
-          kept-grants st h (reordered blocks g) (entered-rows k size a row (omega arith) (hd .rows) (beside-rest (freeOf 0 ls) (blocksOf (granted st)) b))
+          kept-grants st h (reordered blocks g) (records-enter k size a fine (omega (arith, f .inside, r .arena-high)) (omega arith) (hd .rows) fresh)
           (omega (arith, same-length s, granted-length st h))
           (omega (arith, same-requests s, hd .user))
           (omega (arith, same-bytes blocks, hd .allocated))
@@ -102,5 +80,5 @@ granting-right st h size align =
     let below : serving k st < 33 = leb-false 33 (serving k st) (p .1) in
     let r = holds st h .ranges in
     let e : serving k st ≡ servedBy k st = serving-is (st .heap .order - k) k (holds st h .managed) in
-    does (served st h k size (class-low size align) (class-holds size align (omega (arith, r .order-high))) (leb-false (length (st .ledger)) (st .heap .count) room) (servedBy k st)
+    does (served st h k size (class-word size align) (class-holds size align (omega (arith, r .order-high))) (leb-false (length (st .ledger)) (st .heap .count) room) (servedBy k st)
     (serves (st .heap .order - k) k (lists (memory st)) (omega arith)) e)

@@ -6,7 +6,10 @@ use Prim.Native.Nat.{ℕ, _≤_}
 use native.Mathlib.Omega.{arith}
 use lib.ListN.{length, take, length-map, length-take}
 use Rattle.answers.specs.declared.Refusal.{Refusal}
-use Rattle.ledger.specs.Ledger.{Grant, grants, grantOf, wordOf, ledgerWords, recordsb, ascendingb}
+use Rattle.words.proofs.Pad.{length-pad}
+use Rattle.ledger.specs.Ledger.{Grant, grants, grantOf, wordOf, ledgerWords}
+use Rattle.ledger.proofs.Grants.{Records, records-fit}
+use Rattle.ledger.proofs.Ledgers.{grants-words, words-kept}
 use Rattle.heap_state.specs.Lists.{Memory}
 use Rattle.heap_state.specs.Sound.{Block, bytesOf, requests}
 use Rattle.heap_state.specs.State.{State}
@@ -14,7 +17,6 @@ use Rattle.heap_state.proofs.Facts.{Sound, sound-fact}
 use Rattle.heap_core.specs.Deciding.{Decision, refused, done, granted, withLists, withGrants}
 use Rattle.heap_laws.specs.Claims.{Healthy, Follows}
 use Rattle.heap_laws.proofs.Managing.{Managed}
-use Rattle.heap_laws.proofs.Ledgers.{Rows, records-true, ascending-true, words-length, words-zeros, words-taken, words-grants}
 use Rattle.heap_laws.proofs.Entries.{blocksOf}
 use Rattle.heap_laws.proofs.Sounds.{ManagedBy, Held, held, sounds}
 
@@ -52,14 +54,14 @@ module _ (st : State) (h : Healthy st) where
 
     -- other lists and other grants
     pub kept-grants : {gs : List Grant} {user allocated : ℕ} → ManagedBy st (st .heap .total) m ls (blocksOf gs) →
-        Rows (st .heap .order) 0 gs →
+        Records (st .heap .order) 0 gs →
         length gs ≤ length (st .ledger) → user ≡ requests gs → allocated ≡ bytesOf (blocksOf gs) → Healthy (withGrants st m gs user allocated)
     kept-grants {gs} {user} {allocated} g rows room u a =
         let r = sound-state .ranges in
         let n : ℕ = length (st .ledger) in
-        let e : grants (length gs) (ledgerWords n gs) ≡ gs = words-grants n gs rows room in
-        let l : length (ledgerWords n gs) ≡ n = words-length n gs in
-        let w : take (length gs) (ledgerWords n gs) ≡ map wordOf gs = words-taken n gs room in
+        let e : grants (length gs) (ledgerWords n gs) ≡ gs = grants-words n gs room (records-fit rows) in
+        let l : length (ledgerWords n gs) ≡ n = length-pad n (map wordOf gs) in
+        let k = words-kept n gs room (r .ledger-high) rows in
         record {
           heads-33 = g .heads-33;
           sound = sounds (withGrants st m gs user allocated) {ls = ls} (rw e (own-words g))
@@ -72,7 +74,7 @@ module _ (st : State) (h : Healthy st) where
                 order-high = r .order-high;
                 room = omega arith;
               })
-              (ap (recordsb (st .heap .order)) w ∙ records-true rows) (ap (ascendingb 0) w ∙ ascending-true rows) (words-zeros n gs) (u ∙ ap requests (sym e))
+              (k .fine) (k .ascending) (k .zeros) (u ∙ ap requests (sym e))
               (a ∙ ap (λ (x : List Grant). bytesOf (blocksOf x)) (sym e));
         }
 

@@ -9,7 +9,6 @@ pub mod Releasing
 pub mod Adding
 pub mod Tested
 pub mod PlacedTests
-pub mod Ledgers
 pub mod Entries
 pub mod Sounds
 pub mod Keeping

@@ -24,8 +24,9 @@ use Rattle.heap_laws.proofs.Placing.{Placed, placed-rest}
 use Rattle.heap_laws.proofs.Free.{freeOf}
 use Rattle.heap_laws.proofs.Managing.{Managed, in-hand, reordered, store-managed}
 use Rattle.heap_laws.proofs.Releasing.{release-managed}
-use Rattle.heap_laws.proofs.Ledgers.{Row}
-use Rattle.heap_laws.proofs.Entries.{blocksOf, same-requests, struck, struck-rows, row-of}
+use Rattle.ledger.proofs.Grants.{Fine}
+use Rattle.ledger.proofs.Keeping.{records-strike}
+use Rattle.heap_laws.proofs.Entries.{blocksOf, same-requests, struck, fine-of}
 use Rattle.heap_laws.proofs.Sounds.{ManagedBy, lists-is}
 use Rattle.heap_laws.proofs.Keeping.{holds, kept-ledger, kept-grants, granted-length, Right, does, judged}
 
@@ -43,8 +44,8 @@ module _ (st : State) (h : Healthy st) (k size a : ℕ) (found : some (same k si
   out : granted st ~ (grant k size a ∷ strike (same k size a) (granted st))
   out = struck k size a (granted st) found (placed-rest (freeOf 0 (lists (memory st))) (blocksOf (granted st)) (holds st h .managed .placed))
 
-  row : Row (st .heap .order) k size a
-  row = row-of k size a (holds st h .rows) found
+  row : Fine (st .heap .order) k size
+  row = fine-of k size a (holds st h .rows) found
 
   pub in-hand-granted : ManagedBy st (st .heap .total) (memory st) (lists (memory st)) (blk k a ∷ blocksOf (strike (same k size a) (granted st)))
   in-hand-granted = reordered (mapped blockOf out) (holds st h .managed)
@@ -60,7 +61,7 @@ module _ (st : State) (h : Healthy st) (k size a : ℕ) (found : some (same k si
       record {
         value-is = f .compared;
         lists-are = lists-is (f .managed);
-        healthy = kept-grants st h (f .managed) (struck-rows (same k size a) (hd .rows)) (omega (arith, same-length out, granted-length st h, r .room))
+        healthy = kept-grants st h (f .managed) (records-strike (same k size a) (hd .rows)) (omega (arith, same-length out, granted-length st h, r .room))
             (omega (arith, same-requests out, hd .user)) (omega (arith, same-bytes (mapped blockOf out), hd .allocated));
       }
 

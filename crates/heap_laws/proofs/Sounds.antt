@@ -8,16 +8,18 @@ use native.Mathlib.Decide.{decLe}
 use native.Mathlib.Omega.{arith}
 use lib.ListN.{length, take, drop, List·getD-eq-default}
 use lib.Seq.{ext-getD}
-use borrow.Author.Tests.{eqb-true, eq-eqb}
+use borrow.Author.Tests.{eq-eqb}
 use Rattle.words.specs.Words.{zerosb}
-use Rattle.words.proofs.Tests.{both, join}
+use Rattle.words.proofs.Tests.{join}
 use Rattle.ledger.specs.Ledger.{Grant, recordsb, ascendingb}
+use Rattle.ledger.proofs.Grants.{Records, none, next, records-of}
 use Rattle.linked_list.specs.Chains.{Chain}
 use Rattle.linked_list.proofs.Counting.{chain-few}
 use Rattle.heap_state.specs.Lists.{Memory, head, list}
 use Rattle.heap_state.specs.Sound.{Block, bytesOf, requests, placedb, disjointb, freeFrom, countersb, reaches}
 use Rattle.heap_state.specs.State.{State, isSound}
 use Rattle.heap_state.proofs.Facts.{Ranges, Sound, sound-true}
+use Rattle.heap_state.proofs.Counters.{sums}
 use Rattle.heap_core.specs.Deciding.{memory, granted}
 use Rattle.heap_laws.specs.ListRules.{listsFrom, lists, ofClass}
 use Rattle.heap_laws.proofs.Placing.{placed-front}
@@ -26,7 +28,6 @@ use Rattle.heap_laws.proofs.Managing.{Managed, list-is}
 use Rattle.heap_laws.proofs.Releasing.{fits-of}
 use Rattle.heap_laws.proofs.Tested.{Listed, heads-fact, heads-true, reaches-chain, chain-reaches, lists-fact, lists-true, listed-at, listed-length, free-is}
 use Rattle.heap_laws.proofs.PlacedTests.{Classed, nothing, also, classed-append, classed-free, placed-fact, placed-true, disjoint-true}
-use Rattle.heap_laws.proofs.Ledgers.{Rows, none, next, rows-fact}
 use Rattle.heap_laws.proofs.Entries.{blocksOf}
 
 -- ---- the lists of a memory are those that stand in it
@@ -47,25 +48,13 @@ ManagedBy st total m ls others = Managed (st .heap .order) (length (st .arena)) 
 pub record Held (st : State) : Type 0 where
   pub ranges : Ranges (st .heap) (st .arena) (st .ledger)
   pub managed : ManagedBy st (st .heap .total) (memory st) (lists (memory st)) (blocksOf (granted st))
-  pub rows : Rows (st .heap .order) 0 (granted st)
+  pub rows : Records (st .heap .order) 0 (granted st)
   pub user : st .heap .user ≡ requests (granted st)
   pub allocated : st .heap .allocated ≡ bytesOf (blocksOf (granted st))
 
-classed-rows : {order floor : ℕ} {gs : List Grant} → Rows order floor gs → Classed order (blocksOf gs)
+classed-rows : {order floor : ℕ} {gs : List Grant} → Records order floor gs → Classed order (blocksOf gs)
 classed-rows none = nothing
-classed-rows (next r h rest) = also (record { low = r .low; high = r .high }) (classed-rows rest)
-
-record Counted (st : State) : Type 0 where
-  user : st .heap .user ≡ requests (granted st)
-  allocated : st .heap .allocated ≡ bytesOf (blocksOf (granted st))
-  total : st .heap .total ≡ bytesOf (freeFrom 33 0 (memory st) ++ blocksOf (granted st))
-
-counted : (st : State) → countersb (st .heap) (st .arena) (st .ledger) ≡ true → Counted st
-unfolding countersb
-counted st e =
-    let p = both _ _ e in
-    let q = both _ _ (p .0) in
-    record { user = eqb-true _ _ (q .0); allocated = eqb-true _ _ (q .1); total = eqb-true _ _ (p .1) }
+classed-rows (next l s f rest) = also (record { low = f .low; high = f .high }) (classed-rows rest)
 
 module _ (st : State) (heads-33 : length (st .heap .heads) ≡ 33) (s : Sound (st .heap) (st .arena) (st .ledger)) where
   -- each head's walk is a chain
@@ -90,8 +79,8 @@ module _ (st : State) (heads-33 : length (st .heap .heads) ≡ 33) (s : Sound (s
   pub held : Held st
   unfolding lists
   held =
-      let rows : Rows (st .heap .order) 0 (granted st) = rows-fact (st .heap .order) 0 (take (st .heap .count) (st .ledger)) (s .records) (s .ascending) in
-      let c = counted st (s .counters) in
+      let rows : Records (st .heap .order) 0 (granted st) = records-of (st .heap .order) 0 (take (st .heap .count) (st .ledger)) (s .records) (s .ascending) in
+      let c = sums (st .heap) (st .arena) (st .ledger) (s .counters) in
       let bytes : ℕ = length (st .arena) * 8 in
       let listed : (j : ℕ) → (head j (memory st) ≡ 0) ⊎ Listed (st .heap .order) j =
       λ j. let z : 0 + j ≡ j = omega arith in rw z at (heads-fact (st .heap .order) 0 (st .heap .heads) (s .heads) j) in

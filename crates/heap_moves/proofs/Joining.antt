@@ -1,6 +1,6 @@
 -- The joins of a release, turn by turn, at the numbers as the code has them. Assumes nothing.
 use mathlib.Core.Path.{_≡_, refl, sym, ap, ap₂, _∙_}
-use mathlib.Core.Bool.{Bool, true, false}
+use mathlib.Core.Bool.{true, false}
 use mathlib.Core.List.{List}
 use Prim.Native.Nat.{ℕ, suc, _+_, _-_, _*_, _≤_, _<_, min}
 use native.Mathlib.Omega.{arith}
@@ -10,7 +10,7 @@ use Rattle.linked_list.specs.Links.{nodes, searched, compared, removed, Left}
 use Rattle.linked_list.specs.declared.Previous.{Previous}
 use Rattle.linked_list.specs.declared.Search.{Search}
 use Rattle.linked_list.proofs.Chains.{nodes-few}
-use Rattle.heap_state.specs.Lists.{Memory, head, list, stands, push, pop, remove, joinUp, release, Released}
+use Rattle.heap_state.specs.Lists.{Memory, head, list, stands, push, pop, remove, joinUp, release}
 use Rattle.heap_moves.specs.Moves.{mem, takenOut, released}
 
 pub taken-out-is : (heads arena words : List ℕ) (class node first : ℕ) (previous : Previous) → Left (removed (getD heads class 0) arena previous node) first words

@@ -1,10 +1,10 @@
 -- One step of a grant's and of a release's moves, at the numbers as the code has them. Assumes nothing.
-use mathlib.Core.Path.{_≡_, refl, sym, ap, ap₂, _∙_}
+use mathlib.Core.Path.{_≡_, ap, ap₂}
 use mathlib.Core.List.{List}
 use Prim.Native.Nat.{ℕ}
 use lib.ListN.{getD, set}
-use Rattle.linked_list.specs.Links.{next, pushed, removed, Left}
-use Rattle.heap_state.specs.Lists.{head, push, pop}
+use Rattle.linked_list.specs.Links.{next, pushed, Left}
+use Rattle.heap_state.specs.Lists.{push, pop}
 use Rattle.heap_moves.specs.Moves.{mem}
 
 pub push-is : (heads arena words : List ℕ) (class block first : ℕ) → Left (pushed (getD heads class 0) arena block) first words

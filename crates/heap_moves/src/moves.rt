@@ -1,7 +1,7 @@
 // Blocks moved between the lists of a heap: those of an added range, of a grant, of a release.
 ghost use mathlib.Core.Path.{_≡_};
 ghost use Prim.Native.Nat.{_+_, _-_, _^_, _≤_, _<_};
-ghost use lib.ListN.{length, getD};
+ghost use lib.ListN.{length};
 ghost use Rattle.heap_state.specs.Lists.{push, pop, pushAll, release};
 ghost use Rattle.heap_moves.specs.Moves.{mem, Servable, TakenOut, takenOut, released};
 use answers::Answer;

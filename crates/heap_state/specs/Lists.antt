@@ -1,6 +1,6 @@
 -- The lists of a heap, from docs/RULES.md, "The heap over an arena": "Lists are last in, first out; a free block's first word holds the next address."
 use mathlib.Core.Bool.{Bool, true, false}
-use mathlib.Core.List.{List, [], _∷_}
+use mathlib.Core.List.{List}
 use Prim.Native.Nat.{ℕ, zero, suc, _+_, _-_, _^_, min}
 use lib.Dec.{eqb, ltb}
 use lib.ListN.{length, getD, set}

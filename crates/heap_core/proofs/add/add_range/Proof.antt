@@ -1,9 +1,8 @@
 -- `heap_core::add::add_range` meets its contract, by the tests of the range in their order. Assumes nothing.
-use mathlib.Core.Path.{_≡_, refl, sym, subst, _∙_}
+use mathlib.Core.Path.{refl, sym, subst}
 use native.Mathlib.Omega.{arith}
 use denote.Ref.{now}
 use Rattle.heap_state.specs.State.{state, Says}
-use Rattle.heap_state.proofs.Facts.{sound-fact}
 use Rattle.heap_core.specs.Deciding.{Decision, carried}
 use Rattle.heap_core.proofs.Judging.{says-refused, says-done}
 use Rattle.heap_core.proofs.Adding.{start-outside, end-outside, backward, none-added, from-null, some-words}

@@ -1,6 +1,5 @@
 -- `heap_core::add::block_meets` meets its contract, by where the block starts. Assumes nothing.
 use Rattle.heap_core.proofs.Overlaps.{above-misses, below-meets, inside-meets}
-use borrow.Author.Needs.{needs}
 use Rattle.heap_core.proofs.add.block_meets.Statement.{statement}
 use Rattle.heap_core.proofs.add.block_meets.Tie as tie
 

@@ -1,5 +1,4 @@
 -- `heap_core::grant::grant_from` meets its contract: the block that came out, entered into the ledger. Assumes nothing.
-use mathlib.Core.Path.{_≡_, refl, sym, ap, _∙_}
 use native.Mathlib.Omega.{arith}
 use denote.Ref.{now}
 use Rattle.blocks.proofs.Rounding.{size-is}

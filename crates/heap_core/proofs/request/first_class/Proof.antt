@@ -1,5 +1,5 @@
 -- `heap_core::request::first_class` meets its contract: the classes left have the first block that all have. Assumes nothing.
-use mathlib.Core.Path.{_≡_, refl, sym, _∙_}
+use mathlib.Core.Path.{_≡_, refl, _∙_}
 use mathlib.Core.List.{[]}
 use Prim.Native.Nat.{_-_}
 use denote.Ref.{now}

@@ -1,9 +1,8 @@
 -- `heap_moves::moves::push_pieces` meets its contract: what is left to push, of what is there, comes to the whole. Assumes nothing.
-use mathlib.Core.Path.{_≡_, refl, sym, ap, _∙_}
-use Prim.Native.Nat.{ℕ, _+_, _-_}
+use mathlib.Core.Path.{_≡_, refl, sym, _∙_}
+use Prim.Native.Nat.{_+_, _-_}
 use native.Mathlib.Omega.{arith}
 use lib.ListN.{length}
-use denote.Ref.{now}
 use Rattle.heap_state.specs.Lists.{pushAll}
 use Rattle.heap_moves.specs.Moves.{mem}
 use Rattle.heap_moves.proofs.Pushing.{piece-fits, piece-class, push-turn, push-end}

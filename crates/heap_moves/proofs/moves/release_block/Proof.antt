@@ -1,9 +1,8 @@
 -- `heap_moves::moves::release_block` meets its contract: the joins to come, with the count so far, come to the whole release. Assumes nothing.
-use mathlib.Core.Path.{_≡_, refl, sym, ap, _∙_}
-use Prim.Native.Nat.{ℕ, _+_, _-_}
+use mathlib.Core.Path.{_≡_, refl, _∙_}
+use Prim.Native.Nat.{_-_}
 use native.Mathlib.Omega.{arith}
 use lib.ListN.{length}
-use denote.Ref.{now}
 use borrow.Author.Tests.{not-true, not-false}
 use Rattle.heap_moves.specs.Moves.{mem}
 use Rattle.heap_moves.proofs.Joining.{Joins, joins-start, join-miss, join-hit, join-none, looked-few, release-is}

@@ -1,9 +1,8 @@
 -- `heap_moves::moves::take_block` meets its contract: the halves still to be made of what is there come to the whole. Assumes nothing.
-use mathlib.Core.Path.{_≡_, refl, sym, ap, _∙_}
-use Prim.Native.Nat.{ℕ, _+_, _-_}
+use mathlib.Core.Path.{_≡_, refl, sym, _∙_}
+use Prim.Native.Nat.{_-_}
 use native.Mathlib.Omega.{arith}
 use lib.ListN.{length}
-use denote.Ref.{now}
 use Rattle.heap_moves.specs.Moves.{mem}
 use Rattle.heap_moves.proofs.Halving.{Halving, halving-start, halving-turn, upper-fits, taken, nothing-popped, block-popped}
 use borrow.Author.Needs.{needs}
