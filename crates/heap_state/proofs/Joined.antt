@@ -1,10 +1,6 @@
--- Tests joined by `&&`, in another order; and a size by a shift. Assumes nothing.
-use mathlib.Core.Path.{_≡_, refl, _∙_}
+-- Tests joined by `&&`, in another order. Assumes nothing.
+use mathlib.Core.Path.{_≡_, refl}
 use mathlib.Core.Bool.{Bool, true, false, _&&_}
-use Prim.Native.Nat.{ℕ, _*_, _%_, _^_, _<_}
-use native.Mathlib.Nat.{one-mul}
-use native.Mathlib.Omega.{arith}
-use lib.Pow.{shl-exact}
 use Rattle.words.proofs.Tests.{both, join, same}
 
 pub and-assoc : (a b c : Bool) → (a && b) && c ≡ a && (b && c)
@@ -20,7 +16,3 @@ and-swap true true c d = refl
 and-swap true false true d = refl
 and-swap true false false d = refl
 and-swap false b c d = refl
-
--- `1 << k`
-pub shifted : (k : ℕ) → k < 64 → 1 * 2 ^ k % 2 ^ 64 ≡ 2 ^ k
-shifted k h = shl-exact 1 k 64 (omega arith) (omega arith) ∙ simp one-mul

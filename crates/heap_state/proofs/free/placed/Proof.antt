@@ -6,7 +6,7 @@ use lib.Bits.{and-mask}
 use lib.Pow.{pow-pos}
 use borrow.Author.Tests.{leb-true, le-leb}
 use Rattle.words.proofs.Tests.{no, same}
-use Rattle.heap_state.proofs.Joined.{shifted}
+use Rattle.blocks.proofs.Powers.{one-shl}
 use Rattle.heap_state.proofs.Heads.{block-fact, block-true}
 use borrow.Author.Needs.{needs}
 use Rattle.heap_state.proofs.free.placed.Statement.{statement}
@@ -16,12 +16,12 @@ shl-size : tie.Need-shl-size
 shl-size c = search needs
 
 sub-if1 : tie.Need-sub-if1
-sub-if1 c = rw (shifted (c .args .class) (c .pre)) (pow-pos (c .args .class))
+sub-if1 c = rw (one-shl (c .args .class) (c .pre)) (pow-pos (c .args .class))
 
 returns : tie.Need-returns
 returns c =
     let a = c .before .args in
-    sym (no _ (λ e. c .if1 .taken (rw (shifted (a .class) (c .before .pre)) (and-mask (a .address) (a .class) ∙ block-fact (a .bytes) (a .class) (a .address) e .aligned))))
+    sym (no _ (λ e. c .if1 .taken (rw (one-shl (a .class) (c .before .pre)) (and-mask (a .address) (a .class) ∙ block-fact (a .bytes) (a .class) (a .address) e .aligned))))
 
 returns-2 : tie.Need-returns-2
 returns-2 c =
@@ -37,8 +37,8 @@ returns-4 : tie.Need-returns-4
 returns-4 c =
     let s = c .before .before .before in
     let a = s .args in
-    let z = shifted (a .class) (s .pre) in
-    let low = rw (shifted (a .class) (s .pre), and-mask (a .address) (a .class)) at (c .before .before .if1 .left) in
+    let z = one-shl (a .class) (s .pre) in
+    let low = rw (one-shl (a .class) (s .pre), and-mask (a .address) (a .class)) at (c .before .before .if1 .left) in
     rw z
     (same _ _
     (λ e. block-true (a .bytes) (a .class) (a .address) (record { aligned = low; above = omega arith; inside = omega (arith, leb-true (2 ^ a .class) (a .bytes - a .address) e) }))

@@ -8,7 +8,7 @@ use borrow.Author.Tests.{not-true, not-false}
 use Rattle.linked_list.specs.Links.{next}
 use Rattle.heap_state.specs.Sound.{bytesOf}
 use Rattle.heap_state.specs.Parts.{listBlocks, listb}
-use Rattle.heap_state.proofs.Joined.{shifted}
+use Rattle.blocks.proofs.Powers.{one-shl}
 use Rattle.heap_state.proofs.Walks.{wrong-is, blocks-end, blocks-step, list-end, list-out, list-step, walk-fits}
 use borrow.Author.Needs.{needs}
 use Rattle.heap_state.proofs.free.walk.Statement.{statement}
@@ -72,7 +72,7 @@ add-bytes c =
     let a = s .args in
     omega (
       arith,
-      shifted (a .class) (omega arith),
+      one-shl (a .class) (omega arith),
       walk-fits (a .class) (length (a .arena .now)) (a .arena .now) (a .head) (l .bytes) (l .left) (l .node) (s .pre .0) (s .pre .2) (c .before .before .before .loop-test .taken) (l .inv .1),
     )
 
@@ -101,7 +101,7 @@ loop-again c =
       rw good at (sym step) ∙ l .inv .0,
       omega (
         arith,
-        shifted (a .class) (omega arith),
+        one-shl (a .class) (omega arith),
         ap bytesOf whole,
         ap (λ (n : ℕ). bytesOf (listBlocks (a .class) n m (next m (l .node)))) one,
       ),

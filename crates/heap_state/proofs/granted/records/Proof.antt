@@ -11,7 +11,7 @@ use borrow.Author.Tests.{not-true, not-false}
 use Rattle.ledger.specs.Ledger.{grantOf, classOf}
 use Rattle.heap_state.specs.Sound.{bytesOf, requests}
 use Rattle.heap_state.specs.Parts.{blocksOf, grantedb}
-use Rattle.heap_state.proofs.Joined.{shifted}
+use Rattle.blocks.proofs.Powers.{one-shl}
 use Rattle.heap_state.proofs.Records.{next-fact, size-small, granted-step, granted-end, user-step, user-end, allocated-step, allocated-end}
 use borrow.Author.Needs.{needs}
 use Rattle.heap_state.proofs.granted.records.Statement.{statement}
@@ -79,7 +79,7 @@ add-allocated c =
     let w = getD (a .ledger .now) (l .loop .i) 0 in
     let good = sym (r .record-ok .ensures) ∙ not-false _ (c .before .before .if1 .left) in
     let f = next-fact (a .order) (a .bytes) (l .loop .floor) w good in
-    omega (arith, shifted (c .before .class-of .result) (omega arith), ap (λ (n : ℕ). 2 ^ n) (c .before .class-of .ensures), size-small (classOf w) (omega arith))
+    omega (arith, one-shl (c .before .class-of .result) (omega arith), ap (λ (n : ℕ). 2 ^ n) (c .before .class-of .ensures), size-small (classOf w) (omega arith))
 
 address-of-requires : tie.Need-address-of-requires Inv-loop μ-loop
 address-of-requires c κs = search needs
@@ -93,7 +93,7 @@ add-floor c =
     let w = getD (a .ledger .now) (l .loop .i) 0 in
     let good = sym (r .record-ok .ensures) ∙ not-false _ (c .before .before .before .if1 .left) in
     let f = next-fact (a .order) (a .bytes) (l .loop .floor) w good in
-    omega (arith, shifted (c .before .before .class-of .result) (omega arith), ap (λ (n : ℕ). 2 ^ n) (c .before .before .class-of .ensures), size-small (classOf w) (omega arith))
+    omega (arith, one-shl (c .before .before .class-of .result) (omega arith), ap (λ (n : ℕ). 2 ^ n) (c .before .before .class-of .ensures), size-small (classOf w) (omega arith))
 
 add-i : tie.Need-add-i Inv-loop μ-loop
 add-i c = search needs
@@ -111,7 +111,7 @@ loop-again c =
     let good = sym (r .record-ok .ensures) ∙ not-false _ (c .before .before .before .if1 .left) in
     let f = next-fact (a .order) (a .bytes) (l .loop .floor) w good in
     let k = c .before .before in
-    let z : 1 * 2 ^ (k .class-of .result) % 2 ^ 64 ≡ 2 ^ classOf w = shifted (k .class-of .result) (omega arith) ∙ ap (λ (n : ℕ). 2 ^ n) (k .class-of .ensures) in
+    let z : 1 * 2 ^ (k .class-of .result) % 2 ^ 64 ≡ 2 ^ classOf w = one-shl (k .class-of .result) (omega arith) ∙ ap (λ (n : ℕ). 2 ^ n) (k .class-of .ensures) in
     let step = granted-step (a .order) (a .bytes) (a .ledger .now) (a .count) (s .pre .1) (l .loop .floor) (l .loop .i) (omega arith) in (
       rw (z, c .address-of .ensures) (rw good at (sym step) ∙ l .loop .inv .0),
       omega (arith, user-step (a .order) (a .bytes) (a .ledger .now) (a .count) (s .pre .1) (l .loop .i) (omega arith)),

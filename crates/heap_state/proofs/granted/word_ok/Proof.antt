@@ -5,7 +5,7 @@ use native.Mathlib.Omega.{arith}
 use borrow.Author.Tests.{leb-true, le-leb}
 use Rattle.words.proofs.Tests.{no, same}
 use Rattle.ledger.specs.Ledger.{classOf, requestedOf}
-use Rattle.heap_state.proofs.Joined.{shifted}
+use Rattle.blocks.proofs.Powers.{one-shl}
 use Rattle.heap_state.proofs.Records.{record-fact, record-true}
 use borrow.Author.Needs.{needs}
 use Rattle.heap_state.proofs.granted.word_ok.Statement.{statement}
@@ -44,7 +44,7 @@ returns-4 c =
     let g = r .before .before .before .before .before .before in
     let w = g .before .args .w in
     let k : c .class-of3 .result < 64 = omega arith in
-    rw (shifted (c .class-of3 .result) k, c .class-of3 .ensures, r .requested-of .ensures)
+    rw (one-shl (c .class-of3 .result) k, c .class-of3 .ensures, r .requested-of .ensures)
     (same _ _
     (λ e. record-true (g .before .args .order) w (record { gap = omega arith; class-low = omega arith; class-high = omega arith; holds = leb-true (requestedOf w) (2 ^ classOf w) e }))
     (λ e. le-leb (requestedOf w) (2 ^ classOf w) (record-fact _ _ e .holds)))

@@ -7,7 +7,7 @@ use borrow.Author.Tests.{not-true, not-false}
 use Rattle.linked_list.specs.Links.{next}
 use Rattle.heap_state.specs.Sound.{blk, apartFrom}
 use Rattle.heap_state.specs.Parts.{listBlocks}
-use Rattle.heap_state.proofs.Joined.{shifted}
+use Rattle.blocks.proofs.Powers.{one-shl}
 use Rattle.heap_state.proofs.Crossing.{from-end, from-out, from-step}
 use borrow.Author.Needs.{needs}
 use Rattle.heap_state.proofs.pairs.apart_from_list.Statement.{statement}
@@ -38,7 +38,7 @@ apart-requires : tie.Need-apart-requires Inv-loop μ-loop
 apart-requires c κs =
     let s = c .before .before .before .before in
     let a = s .args in
-    rw (shifted (a .class) (s .pre .0), shifted (a .other) (s .pre .1)) (pow-pos (a .class), pow-pos (a .other))
+    rw (one-shl (a .class) (s .pre .0), one-shl (a .other) (s .pre .1)) (pow-pos (a .class), pow-pos (a .other))
 
 returns-2 : tie.Need-returns-2 Inv-loop μ-loop
 returns-2 c =
@@ -47,7 +47,7 @@ returns-2 c =
     let s = p .before .before .before .before .before in
     let a = s .args in
     let step = from-step (blk (a .class) (a .address)) (a .other) (l .left) (a .arena .now) (l .node) (l .left - 1) (omega arith) (p .before .before .loop-test .taken) in
-    let e = rw (shifted (a .class) (s .pre .0), shifted (a .other) (s .pre .1)) at (p .apart .ensures) in
+    let e = rw (one-shl (a .class) (s .pre .0), one-shl (a .other) (s .pre .1)) at (p .apart .ensures) in
     let bad = sym e ∙ not-true _ (c .if2 .taken) in
     sym (step ∙ rw bad) ∙ l .inv
 
@@ -67,7 +67,7 @@ loop-again c =
     let s = p .before .before .before .before .before in
     let a = s .args in
     let step = from-step (blk (a .class) (a .address)) (a .other) (l .left) (a .arena .now) (l .node) (l .left - 1) (omega arith) (p .before .before .loop-test .taken) in
-    let e = rw (shifted (a .class) (s .pre .0), shifted (a .other) (s .pre .1)) at (p .apart .ensures) in
+    let e = rw (one-shl (a .class) (s .pre .0), one-shl (a .other) (s .pre .1)) at (p .apart .ensures) in
     let good = sym e ∙ not-false _ (c .before .if2 .left) in
     rw (c .next .ensures) (rw good at (sym step) ∙ l .inv)
 

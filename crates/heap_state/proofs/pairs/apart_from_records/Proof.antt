@@ -8,7 +8,7 @@ use lib.Seq.{slice}
 use borrow.Author.Tests.{not-true, not-false}
 use Rattle.heap_state.specs.Sound.{blk, apartFrom}
 use Rattle.heap_state.specs.Parts.{blocksOf}
-use Rattle.heap_state.proofs.Joined.{shifted}
+use Rattle.blocks.proofs.Powers.{one-shl}
 use Rattle.heap_state.proofs.Crossing.{records-step, records-end}
 use borrow.Author.Needs.{needs}
 use Rattle.heap_state.proofs.pairs.apart_from_records.Statement.{statement}
@@ -46,7 +46,7 @@ apart-requires : tie.Need-apart-requires Inv-loop μ-loop
 apart-requires c κs =
     let s = c .before .before .before .before .before .before in
     let k : c .class-of .result < 64 = omega (arith, c .before .before .shared-slice-known2 .given (c .before .before .before .before .loop .i)) in
-    rw (shifted (s .args .class) (s .pre .0), shifted (c .class-of .result) k) (pow-pos (s .args .class), pow-pos (c .class-of .result))
+    rw (one-shl (s .args .class) (s .pre .0), one-shl (c .class-of .result) k) (pow-pos (s .args .class), pow-pos (c .class-of .result))
 
 returns : tie.Need-returns Inv-loop μ-loop
 returns c =
@@ -58,7 +58,7 @@ returns c =
     let a = s .args in
     let step = records-step (blk (a .class) (a .address)) (a .ledger .now) (a .count) (s .pre .1) (l .loop .i) (omega arith) in
     let k : d .class-of .result < 64 = omega (arith, b .before .shared-slice-known2 .given (l .loop .i)) in
-    let e = rw (shifted (a .class) (s .pre .0), shifted (d .class-of .result) k, d .class-of .ensures, b .address-of .ensures) at (p .apart .ensures) in
+    let e = rw (one-shl (a .class) (s .pre .0), one-shl (d .class-of .result) k, d .class-of .ensures, b .address-of .ensures) at (p .apart .ensures) in
     let bad = sym e ∙ not-true _ (c .if1 .taken) in
     sym (step ∙ rw bad) ∙ l .loop .inv
 
@@ -78,7 +78,7 @@ loop-again c =
     let a = s .args in
     let step = records-step (blk (a .class) (a .address)) (a .ledger .now) (a .count) (s .pre .1) (l .loop .i) (omega arith) in
     let k : d .class-of .result < 64 = omega (arith, b .before .shared-slice-known2 .given (l .loop .i)) in
-    let e = rw (shifted (a .class) (s .pre .0), shifted (d .class-of .result) k, d .class-of .ensures, b .address-of .ensures) at (p .apart .ensures) in
+    let e = rw (one-shl (a .class) (s .pre .0), one-shl (d .class-of .result) k, d .class-of .ensures, b .address-of .ensures) at (p .apart .ensures) in
     let good = sym e ∙ not-false _ (c .if1 .left) in
     rw good at (sym step) ∙ l .loop .inv
 
