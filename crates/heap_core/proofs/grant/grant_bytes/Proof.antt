@@ -51,7 +51,7 @@ refused-requires-4 c κs = search needs
 returns-4 : tie.Need-returns-4
 returns-4 c =
     let s = c .before .before .before .before .before .before .before .before .before .before .before .before in
-    says-refused (s .args .t1) (now (s .args .arena)) (now (s .args .ledger)) _ _ _ (ledger-full (s .args .size) (s .args .align) (state (s .args .t1) (now (s .args .arena)) (now (s .args .ledger))) (sym (c .before .before .before .before .before .before .before .before .before .is-power-of-two .ensures) ∙ not-false _ (c .before .before .before .before .before .before .before .before .if1 .left)) (omega (arith, c .before .before .before .before .before .before .if2 .left, c .before .before .before .before .before .before .before .class-for .ensures)) (omega (arith, c .before .before .if3 .left, chosen (s .args .size) (s .args .align) (state (s .args .t1) (now (s .args .arena)) (now (s .args .ledger))) _ _ (c .before .before .before .before .before .before .before .class-for .ensures) (c .before .before .before .first-class .ensures) .from-is)) (c .before .if4 .taken)) (c .refused4 .ensures)
+    says-refused (s .args .t1) (now (s .args .arena)) (now (s .args .ledger)) _ _ _ (ledger-full (s .args .size) (s .args .align) (state (s .args .t1) (now (s .args .arena)) (now (s .args .ledger))) (sym (c .before .before .before .before .before .before .before .before .before .is-power-of-two .ensures) ∙ not-false _ (c .before .before .before .before .before .before .before .before .if1 .left)) (omega (arith, c .before .before .before .before .before .before .if2 .left, c .before .before .before .before .before .before .before .class-for .ensures)) (omega (arith, c .before .before .if3 .left, chosen (s .args .size) (s .args .align) (state (s .args .t1) (now (s .args .arena)) (now (s .args .ledger))) _ _ (c .before .before .before .before .before .before .before .class-for .ensures) (c .before .before .before .first-class .ensures) .from-is)) (omega (arith, c .before .if4 .taken))) (c .refused4 .ensures)
 
 grant-from-requires : tie.Need-grant-from-requires
 grant-from-requires c κs =

@@ -69,7 +69,7 @@ part-clear-start c = search needs
 part-clear-end : tie.Need-part-clear-end
 part-clear-end c =
     let s = c .before .before .before .before .before .before .before .before in
-    part-in (s .args .address) (s .args .size) (s .args .align) (state (s .args .h) (now (s .args .arena)) (now (s .args .ledger))) _ _ (sound-fact _ _ _ (s .pre)) (c .before .before .before .class-for .ensures) (sym (c .before .before .find .ensures) ∙ c .enum-told .given .1) (sym (c .before .before .before .before .before .is-power-of-two .ensures) ∙ not-false _ (c .before .before .before .before .if1 .left))
+    omega (arith, part-in (s .args .address) (s .args .size) (s .args .align) (state (s .args .h) (now (s .args .arena)) (now (s .args .ledger))) _ _ (sound-fact _ _ _ (s .pre)) (c .before .before .before .class-for .ensures) (sym (c .before .before .find .ensures) ∙ c .enum-told .given .1) (sym (c .before .before .before .before .before .is-power-of-two .ensures) ∙ not-false _ (c .before .before .before .before .if1 .left)))
 
 clear-requires : tie.Need-clear-requires
 clear-requires c κs = search needs
