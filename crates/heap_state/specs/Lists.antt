@@ -27,7 +27,7 @@ withList k l m = record { heads = set (m .heads) k (l .head); arena = l .words }
 unfoldable pub push : ℕ → ℕ → Memory → Memory
 push k a m = withList k (pushed (head k m) (m .arena) a) m
 
--- a pop writes nothing: the head's own link is the new head
+-- a pop, of a list that is not empty, writes nothing: the head's own link is the new head
 unfoldable pub pop : ℕ → Memory → Memory
 pop k m = record { heads = set (m .heads) k (next (m .arena) (head k m)); arena = m .arena }
 

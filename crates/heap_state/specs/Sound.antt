@@ -29,10 +29,10 @@ abbrev pub headsb : ℕ → ℕ → List ℕ → Bool
 headsb order k [] = true
 headsb order k (a ∷ rest) = ((leb 3 k && ltb k order) || eqb a 0) && headsb order (suc k) rest
 
--- "each list reaches 0 in fewer nodes than the arena has words"
+-- "each list reaches 0 in fewer nodes than the arena has words": from a, 0 is reached after at most so many nodes
 unfoldable pub reaches : ℕ → List ℕ → ℕ → Bool
 reaches zero arena a = eqb a 0
-reaches (suc fewer) arena a = eqb a 0 || reaches fewer arena (next arena a)
+reaches (suc most) arena a = eqb a 0 || reaches most arena (next arena a)
 
 abbrev pub listsb : List ℕ → List ℕ → Bool
 listsb arena [] = true

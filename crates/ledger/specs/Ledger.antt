@@ -72,7 +72,7 @@ abbrev pub recordsb : ℕ → List ℕ → Bool
 recordsb order [] = true
 recordsb order (w ∷ ws) = recordb order w && recordsb order ws
 
--- "ascending addresses"; an address before the first would be below `floor`
+-- "ascending addresses": the next address is at least `floor`
 abbrev pub ascendingb : ℕ → List ℕ → Bool
 ascendingb floor [] = true
 ascendingb floor (w ∷ ws) = leb floor (addressOf w) && ascendingb (suc (addressOf w)) ws

@@ -48,7 +48,7 @@ abbrev pub popped : ℕ → List ℕ → Popped
 popped zero arena = Nothing
 popped (suc a) arena = Block (record { block = suc a; head = next arena (suc a) })
 
--- "the place of the previous link, a head or a word": the node's own link is put there
+-- by the place of the previous link, a head or a word: the node's own link is put there
 abbrev pub removed : ℕ → List ℕ → Previous → ℕ → Links
 removed head arena Head node = record { head = next arena node; words = arena }
 removed head arena (Word before) node = record { head = head; words = linked arena before (next arena node) }
@@ -69,7 +69,7 @@ abbrev pub linkTo : ℕ → List ℕ → Previous
 linkTo zero xs = Head
 linkTo (suc i) xs = Word (getD xs i 0)
 
--- "those before it count, and so does the node itself where it is found"; all count where it is not there
+-- the nodes before it count, and so does the node itself where it is found; all count where it is not there
 abbrev pub compared : ℕ → List ℕ → ℕ
 compared wanted xs = min (suc (position wanted xs)) (length xs)
 

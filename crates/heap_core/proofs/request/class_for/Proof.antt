@@ -1,5 +1,6 @@
 -- `heap_core::request::class_for` meets its contract, by what the rounding answers. Assumes nothing.
 use mathlib.Core.Path.{sym, _∙_}
+use native.Mathlib.Omega.{arith}
 use Rattle.heap_core.proofs.Requests.{wanted-above, wanted-low, wanted-high}
 use borrow.Author.Needs.{needs}
 use Rattle.heap_core.proofs.request.class_for.Statement.{statement}
@@ -20,7 +21,7 @@ returns c = wanted-above _ (sym (c .before .before .round-aligned .ensures) ∙ 
 returns-2 : tie.Need-returns-2
 returns-2 c =
     let k = c .before .before in
-    wanted-low _ _ (sym (k .before .before .round-aligned .ensures) ∙ k .class .given .1) (c .if1 .taken)
+    wanted-low _ _ (sym (k .before .before .round-aligned .ensures) ∙ k .class .given .1) (omega (arith, c .if1 .taken))
 
 returns-3 : tie.Need-returns-3
 returns-3 c =
