@@ -1,4 +1,5 @@
-/* lavikety.h: memory handed out in blocks of frames, over a table of words that the caller lends.
+/* lavikety.h: memory handed out in blocks of frames, over a table of words that the caller lends; and, further down, a heap of bytes
+ * over an arena of words.
  *
  * A frame is a unit of memory of whatever size you choose; the library sees its number only, 0 to 2^32 - 1, and never touches the
  * memory itself. A block is 1, 2, 4, .. 2^32 frames and starts at a multiple of its size. ORDER, 1 to 33, is chosen when a table is
@@ -66,17 +67,17 @@ typedef struct lavikety_answer {
  * above the top block gets 9 and not 8. */
 enum {
     LAVIKETY_DONE = 0,
-    LAVIKETY_BAD_ORDER = 1,    /* making: ORDER is not 1 to 33 */
-    LAVIKETY_BAD_SIZE = 2,     /* making: not 1 to 65,536 words */
-    LAVIKETY_BAD_STATE = 3,    /* the words are no sound table: never made, damaged, or cut short */
-    LAVIKETY_BAD_RANGE = 4,    /* adding: start > end, or end > 2^32 */
-    LAVIKETY_NULL_START = 5,   /* no frame call gives this; the number is kept for the heap */
-    LAVIKETY_OVERLAP = 6,      /* adding: a frame of the range is in the table already, free or granted */
+    LAVIKETY_BAD_ORDER = 1,    /* making: ORDER is not 1 to 33; of a heap, not 4 to 33 */
+    LAVIKETY_BAD_SIZE = 2,     /* making: not 1 to 65,536 words; of a heap, an arena or a ledger of a length out of range */
+    LAVIKETY_BAD_STATE = 3,    /* the words are no sound table or heap: never made, damaged, or cut short */
+    LAVIKETY_BAD_RANGE = 4,    /* adding: start > end, or end > 2^32; to a heap, a byte above the arena, or rounded start > rounded end */
+    LAVIKETY_NULL_START = 5,   /* adding to a heap: the rounded start is 0 and the rounded end is not; no frame call gives this */
+    LAVIKETY_OVERLAP = 6,      /* adding: a frame or byte of the range is there already, free or granted */
     LAVIKETY_BAD_ALIGN = 7,    /* the alignment is not a power of two (0 is none) */
     LAVIKETY_MISALIGNED = 8,   /* granting at a start: start is no multiple of the rounded count */
     LAVIKETY_NO_BLOCK = 9,     /* granting: rounded up, it is above the largest block, or no free block serves */
-    LAVIKETY_NOT_GRANTED = 10, /* releasing: no granted block has this start and this rounded size */
-    LAVIKETY_NO_ROOM = 11      /* adding or granting: the blocks afterwards would not fit into the table */
+    LAVIKETY_NOT_GRANTED = 10, /* releasing or clearing: no granted block has this start and this rounded size (of a heap: and this size) */
+    LAVIKETY_NO_ROOM = 11      /* adding or granting: the blocks afterwards would not fit into the table; of a heap, the ledger is full */
 };
 
 /* What lavikety_frame_summary writes where: the length of `figures`, and the places in it. */
@@ -110,6 +111,75 @@ lavikety_answer lavikety_frame_dealloc_aligned(uint64_t *table, size_t words, ui
 
 /* Writes the three figures, zeros where refused, and gives the number itself: 0 or 3. */
 uint64_t lavikety_frame_summary(const uint64_t *table, size_t words, uint64_t figures[LAVIKETY_FIGURES]);
+
+/* ---- THE HEAP: target/native/libheap_c.a, by tools/native heap_c. Bytes are granted from an arena of words that the caller lends, under a
+ * record and a ledger that the caller keeps.
+ *
+ * An address is a byte offset in the arena, and 0 is no address: the first 8 bytes are never granted. Blocks have 8, 16, .. bytes and
+ * start at a multiple of their size; ORDER, 4 to 33, is chosen when a heap is made, and the largest block has 2^(ORDER-1) bytes. A
+ * request is rounded up to the larger of its size, its alignment and 8. THE ARENA is 2 to 1,048,576 words; a free block's first word holds
+ * the address of the next free block of its class, and the library touches no other word but to clear it (lavikety_heap_zero). What
+ * stands in a granted block is its holder's. THE LEDGER is 1 to 65,535 words, one for each granted block. THE RECORD is a
+ * lavikety_heap; you may read it, copy it and move it with arena and ledger, and what you write into any of them is tested at the
+ * next call. Every call answers for every content of them, as the frame calls do, and a refused call changes no word of any of the
+ * three; a refused making keeps the record's words too.
+ *
+ * WHAT YOU MUST SEE TO, as for a table, and:
+ *   - record, arena and ledger do not overlap, and each is 8-byte aligned and can be read and written.
+ *   - `arena_words` and `ledger_words` are the same for a heap from its making on.
+ *   - to be aligned in memory as in the arena, `arena` stands at a multiple of the largest alignment that you ask for.
+ *
+ * TIME. Each call but the making tests the heap first, which compares every free block with every other block: with some hundreds of
+ * blocks that is most of the time of a call. Lend a ledger no longer than you need, and ask for few sizes.
+ *
+ * EXAMPLE
+ *     static lavikety_heap heap;
+ *     static uint64_t arena[512], ledger[32];
+ *     lavikety_heap_new(&heap, arena, 512, ledger, 32, 13);
+ *     lavikety_heap_add(&heap, arena, 512, ledger, 32, 8, 4096);          the bytes 8 to 4095 are ours to grant
+ *     lavikety_answer got = lavikety_heap_alloc(&heap, arena, 512, ledger, 32, 100, 8);
+ *     if (got.number == LAVIKETY_DONE) {
+ *         use(&arena[got.value / 8]);                                     128 bytes
+ *         lavikety_heap_dealloc(&heap, arena, 512, ledger, 32, got.value, 100, 8);
+ *     }
+ */
+
+/* The record of a heap: 38 words. */
+typedef struct lavikety_heap {
+    uint64_t order;     /* ORDER */
+    uint64_t heads[33]; /* the first free block of each class, 0 where there is none; a block of class k has 2^k bytes */
+    uint64_t count;     /* granted blocks, each a word of the ledger */
+    uint64_t user;      /* bytes asked for, of all that is granted */
+    uint64_t allocated; /* bytes of the granted blocks */
+    uint64_t total;     /* bytes of all blocks, free and granted */
+} lavikety_heap;
+
+/* Makes a heap without blocks over any words: the record is written, the ledger zeroed, the arena not touched. Numbers 1, 2. */
+lavikety_answer lavikety_heap_new(lavikety_heap *heap, const uint64_t *arena, size_t arena_words, uint64_t *ledger, size_t ledger_words, uint64_t order);
+
+/* Adds the `size` bytes from start on, as lavikety_heap_add does. Numbers 3, 4, 5, 6. */
+lavikety_answer lavikety_heap_init(lavikety_heap *heap, uint64_t *arena, size_t arena_words, const uint64_t *ledger, size_t ledger_words, uint64_t start, uint64_t size);
+
+/* Adds the bytes start to end - 1 as free blocks, start rounded up and end down to multiples of 8. Numbers 3, 4, 5, 6. */
+lavikety_answer lavikety_heap_add(lavikety_heap *heap, uint64_t *arena, size_t arena_words, const uint64_t *ledger, size_t ledger_words, uint64_t start, uint64_t end);
+
+/* Grants `size` bytes at a multiple of `align`, rounded up; the value is the address. Numbers 3, 7, 9, 11. */
+lavikety_answer lavikety_heap_alloc(lavikety_heap *heap, uint64_t *arena, size_t arena_words, uint64_t *ledger, size_t ledger_words, uint64_t size, uint64_t align);
+
+/* Releases the block granted at the address for this size and alignment; the value counts the nodes looked at. Numbers 3, 7, 10. */
+lavikety_answer lavikety_heap_dealloc(lavikety_heap *heap, uint64_t *arena, size_t arena_words, uint64_t *ledger, size_t ledger_words, uint64_t address, uint64_t size, uint64_t align);
+
+/* Clears the words of the `size` bytes of the block granted at the address for this size and alignment. Numbers 3, 7, 10. */
+lavikety_answer lavikety_heap_zero(lavikety_heap *heap, uint64_t *arena, size_t arena_words, const uint64_t *ledger, size_t ledger_words, uint64_t address, uint64_t size, uint64_t align);
+
+/* The value is the bytes asked for, of all that is granted. Number 3. */
+lavikety_answer lavikety_heap_stats_alloc_user(const lavikety_heap *heap, const uint64_t *arena, size_t arena_words, const uint64_t *ledger, size_t ledger_words);
+
+/* The value is the bytes of the granted blocks. Number 3. */
+lavikety_answer lavikety_heap_stats_alloc_actual(const lavikety_heap *heap, const uint64_t *arena, size_t arena_words, const uint64_t *ledger, size_t ledger_words);
+
+/* The value is the bytes of all blocks, free and granted. Number 3. */
+lavikety_answer lavikety_heap_stats_total_bytes(const lavikety_heap *heap, const uint64_t *arena, size_t arena_words, const uint64_t *ledger, size_t ledger_words);
 
 /* ---- The numbers of blocks by themselves, for tools: target/native/libblocks_c.a, by tools/native blocks_c. They hold no state, are
  * no part of the frame calls, and may change; firmware needs none of them. */
