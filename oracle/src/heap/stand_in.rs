@@ -25,6 +25,11 @@ impl StandIn {
         }
     }
 
+    /// Over memory as it stands.
+    pub fn of_memory(fault: Fault, memory: Memory) -> StandIn {
+        StandIn { fault, memory }
+    }
+
     pub fn memory(&self) -> &Memory {
         &self.memory
     }
