@@ -1,6 +1,6 @@
 //! The words that a port is lent, each kind between two words that no call may touch.
 
-use crate::port::{record_words, Lent, Port, Reply, RECORD};
+use crate::port::{record_words, Port, Reply, RECORD};
 use crate::side_by_side::Stop;
 use frame_oracle::crate_guard::guarded;
 use heap_oracle::call::Call;
@@ -27,9 +27,18 @@ impl Guarded {
         &mut self.all[1..end]
     }
 
+    pub fn before(&mut self) -> &mut u64 {
+        &mut self.all[0]
+    }
+
+    pub fn after(&mut self) -> &mut u64 {
+        let end = self.all.len() - 1;
+        &mut self.all[end]
+    }
+
     /// Every word is as expected, and none beside them was touched.
     fn same(&mut self, name: &str, expected: &[u64]) -> Result<(), String> {
-        let (first, last) = (self.all[0], self.all[self.all.len() - 1]);
+        let (first, last) = (*self.before(), *self.after());
         if (first, last) != (GUARD, GUARD) {
             return Err(format!("a word beside the {name} was written"));
         }
@@ -78,13 +87,8 @@ impl Hold {
     }
 
     pub fn put_to(&mut self, port: &mut dyn Port, call: Call) -> Result<Reply, Stop> {
-        let lent = Lent {
-            record: self.record.words(),
-            arena: self.arena.words(),
-            ledger: self.ledger.words(),
-        };
         // a port that breaks down over its fault differs as well
-        guarded(|| port.answer(lent, call))
+        guarded(|| port.answer(self, call))
             .map_err(|message| Stop::Differs(format!("{call}: stopped: {message}")))
     }
 

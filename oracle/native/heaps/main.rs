@@ -12,7 +12,7 @@ use heap_oracle::fault::{faults, Fault};
 use heap_oracle::soundness::Clause;
 use heap_oracle::stand_in_sound::CLAUSES;
 use parts::{Part, Run, LONG_PARTS, PARTS};
-use port::{Faulty, Native, Port};
+use port::{Faulty, Native, Port, BESIDE};
 use side_by_side::{Stop, Tally};
 use std::process::ExitCode;
 use std::thread;
@@ -127,11 +127,10 @@ fn demand_enough(verdicts: &mut Verdicts, tally: &Tally) {
 }
 
 /// The first part in which a port is found to differ, if there is one; a test of soundness is met in the last part.
-fn noticed(fault: Fault, seed: u64) -> Option<(Part, Stop)> {
-    let mut port = Faulty { fault };
-    let mut run = run_on(&mut port, seed, 1);
+fn noticed(port: &mut dyn Port, seed: u64, last_first: bool) -> Option<(Part, Stop)> {
+    let mut run = run_on(port, seed, 1);
     let mut parts = PARTS;
-    if matches!(fault, Fault::Ignores(_)) {
+    if last_first {
         parts.reverse();
     }
     parts
@@ -139,8 +138,19 @@ fn noticed(fault: Fault, seed: u64) -> Option<(Part, Stop)> {
         .find_map(|part| part.1(&mut run).err().map(|stop| (part, stop)))
 }
 
+/// A wrong port must differ, and not by way of document and crate.
+fn demand_noticed(verdicts: &mut Verdicts, name: String, found: Option<(Part, Stop)>) {
+    let result = match found {
+        Some(((name, _), Stop::Differs(text))) => Ok(format!(" in {name}: {text}")),
+        Some((_, stop)) => Err(text(stop)),
+        None => Err("not noticed".to_string()),
+    };
+    verdicts.add(&format!("notices {name}"), result);
+}
+
 fn show_that_faults_are_noticed(verdicts: &mut Verdicts, seed: u64) {
-    let right = match noticed(Fault::None, seed) {
+    let fault = Fault::None;
+    let right = match noticed(&mut Faulty { fault }, seed, false) {
         None => Ok(String::new()),
         Some((_, stop)) => Err(text(stop)),
     };
@@ -148,12 +158,13 @@ fn show_that_faults_are_noticed(verdicts: &mut Verdicts, seed: u64) {
     // lines cannot lend lengths out of range, and C can
     let lengths = [Clause::ArenaLength, Clause::LedgerLength].map(Fault::Ignores);
     for fault in faults().into_iter().chain(lengths) {
-        let result = match noticed(fault, seed) {
-            Some(((name, _), Stop::Differs(text))) => Ok(format!(" in {name}: {text}")),
-            Some((_, stop)) => Err(text(stop)),
-            None => Err("not noticed".to_string()),
-        };
-        verdicts.add(&format!("notices {fault:?}"), result);
+        let last_first = matches!(fault, Fault::Ignores(_));
+        let found = noticed(&mut Faulty { fault }, seed, last_first);
+        demand_noticed(verdicts, format!("{fault:?}"), found);
+    }
+    for mut beside in BESIDE {
+        let found = noticed(&mut beside, seed, false);
+        demand_noticed(verdicts, format!("a word written {beside:?}"), found);
     }
 }
 

@@ -1,5 +1,6 @@
 //! What is compared: anything that answers calls over a record, an arena and a ledger. The proved object does so through its C face.
 
+use crate::hold::Hold;
 use heap_oracle::answer::Answer;
 use heap_oracle::call::Call;
 use heap_oracle::fault::Fault;
@@ -40,16 +41,9 @@ impl fmt::Display for Reply {
     }
 }
 
-/// The words that a call is lent.
-pub struct Lent<'a> {
-    pub record: &'a mut [u64],
-    pub arena: &'a mut [u64],
-    pub ledger: &'a mut [u64],
-}
-
 /// A making of any kind is put to a port as `Call::Remake`, over the words that it is lent.
 pub trait Port {
-    fn answer(&mut self, lent: Lent, call: Call) -> Reply;
+    fn answer(&mut self, lent: &mut Hold, call: Call) -> Reply;
 }
 
 pub fn record_words(record: &Record) -> Vec<u64> {
@@ -159,20 +153,19 @@ extern "C" {
 /// The proved object.
 pub struct Native;
 
-/// The header allows no address for no words.
-fn start(words: &mut [u64]) -> *mut u64 {
-    if words.is_empty() {
-        ptr::null_mut()
-    } else {
-        words.as_mut_ptr()
+/// A pointer and a count; the header allows no address for no words.
+fn pointer(words: &mut [u64]) -> (*mut u64, usize) {
+    match words.len() {
+        0 => (ptr::null_mut(), 0),
+        count => (words.as_mut_ptr(), count),
     }
 }
 
 impl Port for Native {
-    fn answer(&mut self, lent: Lent, call: Call) -> Reply {
-        let h = start(lent.record);
-        let (a, n) = (start(lent.arena), lent.arena.len());
-        let (l, m) = (start(lent.ledger), lent.ledger.len());
+    fn answer(&mut self, lent: &mut Hold, call: Call) -> Reply {
+        let (h, _) = pointer(lent.record.words());
+        let (a, n) = pointer(lent.arena.words());
+        let (l, m) = pointer(lent.ledger.words());
         // SAFETY: 38 words, and the words of arena and ledger, are lent for the time of the call, and none of them twice.
         let got = unsafe {
             match call {
@@ -223,14 +216,14 @@ pub struct Faulty {
 }
 
 impl Port for Faulty {
-    fn answer(&mut self, lent: Lent, call: Call) -> Reply {
-        let before = record_of(lent.record);
+    fn answer(&mut self, lent: &mut Hold, call: Call) -> Reply {
+        let before = record_of(lent.record.words());
         let mut port = StandIn::of_memory(
             self.fault,
             Memory {
                 record: before.clone(),
-                arena: lent.arena.to_vec(),
-                ledger: lent.ledger.to_vec(),
+                arena: lent.arena.words().to_vec(),
+                ledger: lent.ledger.words().to_vec(),
             },
         );
         let answer = port.call(call);
@@ -242,9 +235,48 @@ impl Port for Faulty {
             (true, false) => before,
             (false, _) => memory.record.clone(),
         };
-        lent.record.copy_from_slice(&record_words(&record));
-        lent.arena.copy_from_slice(&memory.arena);
-        lent.ledger.copy_from_slice(&memory.ledger);
+        let words = record_words(&record);
+        lent.record.words().copy_from_slice(&words);
+        lent.arena.words().copy_from_slice(&memory.arena);
+        lent.ledger.words().copy_from_slice(&memory.ledger);
         Reply::expected(&answer)
+    }
+}
+
+/// Right, but for a word beside the record, the arena or the ledger that an accepted release writes.
+#[derive(Clone, Copy, PartialEq, Eq, Debug)]
+pub enum Beside {
+    BeforeTheRecord,
+    AfterTheRecord,
+    BeforeTheArena,
+    AfterTheArena,
+    BeforeTheLedger,
+    AfterTheLedger,
+}
+
+pub const BESIDE: [Beside; 6] = [
+    Beside::BeforeTheRecord,
+    Beside::AfterTheRecord,
+    Beside::BeforeTheArena,
+    Beside::AfterTheArena,
+    Beside::BeforeTheLedger,
+    Beside::AfterTheLedger,
+];
+
+impl Port for Beside {
+    fn answer(&mut self, lent: &mut Hold, call: Call) -> Reply {
+        let fault = Fault::None;
+        let reply = Faulty { fault }.answer(lent, call);
+        if reply.number == 0 && matches!(call, Call::Free { .. }) {
+            match self {
+                Beside::BeforeTheRecord => *lent.record.before() = 0,
+                Beside::AfterTheRecord => *lent.record.after() = 0,
+                Beside::BeforeTheArena => *lent.arena.before() = 0,
+                Beside::AfterTheArena => *lent.arena.after() = 0,
+                Beside::BeforeTheLedger => *lent.ledger.before() = 0,
+                Beside::AfterTheLedger => *lent.ledger.after() = 0,
+            }
+        }
+        reply
     }
 }
