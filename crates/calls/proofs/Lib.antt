@@ -1,3 +1,2 @@
-pub mod Going
+pub mod Enough
 pub mod Showing
-pub mod Whole

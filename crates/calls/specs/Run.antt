@@ -4,15 +4,15 @@ use mathlib.Core.List.{List, [], _∷_}
 use mathlib.Core.Path.{_≡_}
 use Prim.Native.Nat.{ℕ, _+_}
 use lib.Dec.{eqb}
-use lib.ListN.{length, take}
+use lib.ListN.{length}
 use Rattle.answers.specs.Paper.{paper}
 use Rattle.frame.specs.Outcome as frame
 use Rattle.frame_core.specs.Carried.{Reply, Outcome}
 use Rattle.table.specs.Layout.{markOf, classOf, startOf}
 use Rattle.lines.specs.Bytes.{bytes}
 use Rattle.lines.specs.Command.{commandOf}
-use Rattle.lines.specs.Gather.{Reading, fed, lastLine}
 use Rattle.lines.specs.Put.{Put}
+use Rattle.lines.specs.Running as running
 use Rattle.lines.specs.Text.{replyText, recordText}
 use Rattle.lines.specs.declared.Command.{Command}
 use Rattle.lines.specs.declared.Command.the-variants.{Order, Add, Alloc, At, Free, Bad}
@@ -72,21 +72,13 @@ pub record Shown (text buffer : List ℕ) (after : ℕ) (left : List ℕ) : Type
 
 -- ---- line after line
 
-abbrev pub wordsAfterAll : List (List ℕ) → List ℕ → List ℕ
-wordsAfterAll [] ws = ws
-wordsAfterAll (l ∷ ls) ws = wordsAfterAll ls (wordsAfter (commandOf l) ws)
+-- the words after a line of the input
+abbrev pub lineAfter : List ℕ → List ℕ → List ℕ
+lineAfter l ws = wordsAfter (commandOf l) ws
 
--- a buffer holds a line by its first 81 bytes, which say as much as all of it does (lines/proofs/Feeding, `held-enough`)
-abbrev pub Holds : List ℕ → ℕ → List ℕ → Type 0
-Holds held len line = take len held ≡ take 81 line
-
--- A chunk of the input read behind whatever line is held: the lines that end in it were run, and the buffer holds the one that is open.
+-- what is promised of a chunk, and of the input's end
 abbrev pub Took : List ℕ → List ℕ → ℕ → List ℕ → List ℕ → ℕ → List ℕ → Type 0
-Took chunk held len words held′ len′ words′ =
-    (line : List ℕ) → Holds held len line
-    → Holds held′ len′ (fed (record { done = []; held = line }) chunk .held)
-    × (words′ ≡ wordsAfterAll (fed (record { done = []; held = line }) chunk .done) words)
+Took = running.Took lineAfter
 
--- at the input's end what is held is a line, unless nothing is
 abbrev pub Ended : List ℕ → ℕ → List ℕ → List ℕ → Type 0
-Ended held len words words′ = (line : List ℕ) → Holds held len line → words′ ≡ wordsAfterAll (lastLine line) words
+Ended = running.Ended lineAfter

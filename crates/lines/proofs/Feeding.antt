@@ -9,8 +9,8 @@ use borrow.Author.Tests.{lt-ltb, leb-true, leb-false}
 use lib.Dec.{eqb, leb, ltb}
 use lib.ListN.{length, take, drop, length-append, length-take}
 use lib.Seq.{sets, sets-eq, take-all, take-at, take-append-add, append-snoc, length-take-le}
-use Rattle.lines.specs.Command.{commandOf, commandSaid}
 use Rattle.lines.specs.Gather.{first, lineHere, lineEnds, Reading, front, endedOf, openOf, lastLine, linesOf, fedByte, fed, linesRead}
+use Rattle.lines.specs.Line.{lineOf}
 use Rattle.lines.specs.Pieces.{onto, cut}
 use Rattle.lines.specs.Put.{placeAfter}
 use Rattle.lines.proofs.Gathering.{cut-some}
@@ -127,14 +127,14 @@ line-all (b ∷ bs) e = by-cases (eqb b 10) e (line-all bs)
 -- ---- a buffer of 81 bytes
 
 -- more than 80 bytes say no more than 81 do
-pub held-enough : (line : List ℕ) → commandOf (take 81 line) ≡ commandOf line
-held-enough line = by-cases (leb (length line) 81) refl
+pub line-enough : (line : List ℕ) → lineOf (take 81 line) ≡ lineOf line
+line-enough line = by-cases (leb (length line) 81) refl
   where
-    by-cases : (t : Bool) → leb (length line) 81 ≡ t → commandOf (take 81 line) ≡ commandOf line
-    by-cases true e = let short : length line ≤ 81 = leb-true (length line) 81 e in ap commandOf (take-all 81 line short)
+    by-cases : (t : Bool) → leb (length line) 81 ≡ t → lineOf (take 81 line) ≡ lineOf line
+    by-cases true e = let short : length line ≤ 81 = leb-true (length line) 81 e in ap lineOf (take-all 81 line short)
     by-cases false e =
         let long : 81 < length line = leb-false (length line) 81 e in
-        ap commandSaid (sym (too-long (take 81 line) (omega (arith, length-take 81 line))) ∙ too-long line (omega arith))
+        sym (too-long (take 81 line) (omega (arith, length-take 81 line))) ∙ too-long line (omega arith)
 
 take-front : (k : ℕ) (line x : List ℕ) → take k (take k line ++ x) ≡ take k (line ++ x)
 take-front zero line x = refl

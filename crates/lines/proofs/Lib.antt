@@ -8,3 +8,4 @@ pub mod Feeding
 pub mod Reading
 pub mod Lengths
 pub mod OneSaying
+pub mod Going

@@ -6,3 +6,4 @@ pub mod Command
 pub mod Put
 pub mod Text
 pub mod Gather
+pub mod Running

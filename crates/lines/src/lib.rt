@@ -15,6 +15,7 @@ pub use grammar::say;
 pub use show::put_heading;
 pub use show::put_record;
 pub use show::put_reply;
+pub use show::put_with;
 pub use text::put;
 pub use text::put_number;
 

@@ -6,7 +6,7 @@ use crate::text::put;
 use crate::text::put_number;
 
 // Puts a word and the number after it.
-fn put_with(word: &[u8], n: u64, out: &mut [u8], at: usize) -> usize
+pub fn put_with(word: &[u8], n: u64, out: &mut [u8], at: usize) -> usize
     ensures { λ r. ⌜ Put (now (word .entry) ++ decimal n) (now (out .entry)) at r (now (out .exit)) ⌝ }
 {
     let after = put(word, out, at);

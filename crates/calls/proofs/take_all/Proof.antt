@@ -8,17 +8,19 @@ use native.Mathlib.Omega.{arith}
 use lib.ListN.{length, drop, length-drop}
 use lib.Seq.{sets, length-sets}
 use Rattle.lines.specs.Gather.{lineHere}
+use Rattle.lines.specs.Running.{Holds}
 use Rattle.lines.specs.declared.Gathered.{Gathered}
 use Rattle.lines.proofs.Gathering.{moves}
-use Rattle.calls.specs.Run.{Holds}
-use Rattle.calls.proofs.Going.{Going, begun, over, turn-ended, turn-open}
+use Rattle.lines.proofs.Going.{Going, begun, over, turn-ended, turn-open}
+use Rattle.calls.specs.Run.{lineAfter}
+use Rattle.calls.proofs.Enough.{enough}
 use Rattle.calls.proofs.take_all.Statement.{statement}
 use Rattle.calls.proofs.take_all.Tie as tie
 
 abbrev Inv-loop : tie.InvT-loop
 Inv-loop chunk held₀ t₀ out₀ len₀ at₀ from₀ held t out len at from =
     (len ≤ 81) × (at ≤ length out) × (length held ≡ 81) × (length t ≡ length t₀) × (length out ≡ length out₀)
-    × ((line : List ℕ) → Holds held₀ len₀ line → Going chunk line t₀ from held len t)
+    × ((line : List ℕ) → Holds held₀ len₀ line → Going lineAfter chunk line t₀ from held len t)
 
 abbrev μ-loop : tie.MeasureT-loop
 μ-loop chunk held₀ t₀ out₀ len₀ at₀ from₀ held t out len at from = length chunk - from
@@ -26,7 +28,7 @@ abbrev μ-loop : tie.MeasureT-loop
 loop-holds : tie.Need-loop-holds Inv-loop μ-loop
 loop-holds c =
     let a = c .before .before .before .before .args in
-    (search needs, search needs, search needs, search needs, search needs, λ line h. begun (a .chunk .now) line (a .t .now) (a .held .now) (a .place .held) h)
+    (search needs, search needs, search needs, search needs, search needs, λ line h. begun lineAfter (a .chunk .now) line (a .t .now) (a .held .now) (a .place .held) h)
 
 gather-requires : tie.Need-gather-requires Inv-loop μ-loop
 gather-requires c κs = search needs
@@ -60,7 +62,7 @@ loop-again c =
       omega (arith, long),
       omega (arith, r .kept .1 .1 .0),
       omega (arith, r .kept .1 .1 .1 .0),
-      λ line h. turn-ended (a .chunk .now) line (a .t .now) (l .from) (l .held) (l .len) (l .t) (l .inv .2) (l .inv .0) (l .inv .5 line h) (g .gather .result) (g .gather .last .1 .1 .0) (g .gather .ensures .0) (g .gather .ensures .1) (r .last .1 .1 .0) (c .before .before .before .before .before .before .before .before .if1 .taken) (r .ensures .1 .0),
+      λ line h. turn-ended lineAfter enough (a .chunk .now) line (a .t .now) (l .from) (l .held) (l .len) (l .t) (l .inv .2) (l .inv .0) (l .inv .5 line h) (g .gather .result) (g .gather .last .1 .1 .0) (g .gather .ensures .0) (g .gather .ensures .1) (r .last .1 .1 .0) (c .before .before .before .before .before .before .before .before .if1 .taken) (r .ensures .1 .0),
     )
 
 loop-less-2 : tie.Need-loop-less-2 Inv-loop μ-loop
@@ -84,7 +86,7 @@ loop-again-2 c =
       omega (arith, long),
       omega arith,
       omega arith,
-      λ line h. turn-open (a .chunk .now) line (a .t .now) (l .from) (l .held) (l .len) (l .t) (l .inv .2) (l .inv .0) (l .inv .5 line h) (g .gather .result) (g .gather .last .1 .1 .0) (g .gather .ensures .0) (g .gather .ensures .1) (c .if1 .left),
+      λ line h. turn-open lineAfter enough (a .chunk .now) line (a .t .now) (l .from) (l .held) (l .len) (l .t) (l .inv .2) (l .inv .0) (l .inv .5 line h) (g .gather .result) (g .gather .last .1 .1 .0) (g .gather .ensures .0) (g .gather .ensures .1) (c .if1 .left),
     )
 
 same-length : tie.Need-same-length Inv-loop μ-loop
@@ -100,7 +102,7 @@ returns : tie.Need-returns Inv-loop μ-loop
 returns c =
     let l = c .before .loop in
     let a = c .before .before .before .before .before .before .args in
-    (search needs, (search needs, λ line h. over (a .chunk .now) line (a .t .now) (l .from) (l .held) (l .len) (l .t) (omega arith) (l .inv .5 line h)))
+    (search needs, (search needs, λ line h. over lineAfter (a .chunk .now) line (a .t .now) (l .from) (l .held) (l .len) (l .t) (omega arith) (l .inv .5 line h)))
 
 pub take-all-spec : {M : Type 1} → statement M
 take-all-spec =
