@@ -1,0 +1,57 @@
+-- Of a line the first 81 bytes are enough to run it, and what a line prints has room, unless it is a list's.
+use mathlib.Core.Bool.{Bool, true, false}
+use mathlib.Core.List.{List, [], _∷_, _++_}
+use mathlib.Core.Path.{_≡_, refl, sym, ap, subst, _∙_}
+use Prim.Native.Nat.{ℕ, _+_, _≤_}
+use native.Mathlib.Omega.{arith}
+use lib.ListN.{length, take, length-append}
+use Rattle.answers.specs.Paper.{paper}
+use Rattle.lines.specs.Line.{Line}
+use Rattle.lines.specs.Put.{Put}
+use Rattle.lines.specs.Text.{decimal, lineFeed}
+use Rattle.lines.proofs.Feeding.{line-enough}
+use Rattle.lines.proofs.Lengths.{length-decimal}
+use Rattle.heap_calls.specs.declared.Printed.{Printed}
+use Rattle.heap_calls.specs.declared.Printed.the-variants.{Reply, Figures, Nodes, Set, BadLine}
+use Rattle.heap_calls.specs.Command.{commandSaid, commandOf}
+use Rattle.heap_calls.specs.Run.{Machine, after}
+use Rattle.heap_calls.specs.Text.{spaced, replyText, figuresText, lineOf, byNode}
+use Rattle.heap_calls.specs.Running.{lineAfter, Shown}
+
+pub enough : (l : List ℕ) (m : Machine) → lineAfter (take 81 l) m ≡ lineAfter l m
+unfolding commandOf
+enough l m = ap (λ (x : Line). after (commandSaid x) m) (line-enough l)
+
+-- ---- lengths
+
+both : (xs ys : List ℕ) (a b : ℕ) → length xs ≤ a → length ys ≤ b → length (xs ++ ys) ≤ a + b
+both xs ys a b h k = omega (arith, length-append xs ys)
+
+length-spaced : (n : ℕ) → length (spaced n) ≤ 21
+length-spaced n = omega (arith, length-decimal n)
+
+reply-length : (number value : ℕ) → length (replyText number value) ≤ 160
+reply-length number value =
+    let all : length (replyText number value) ≤ 42 =
+    both (decimal number ++ spaced value) lineFeed 41 1 (both (decimal number) (spaced value) 20 21 (length-decimal number) (length-spaced value)) (omega arith) in
+    omega arith
+
+figures-length : (n u a t : ℕ) → length (figuresText n u a t) ≤ 160
+figures-length n u a t =
+    let two = both (decimal n) (spaced u) 20 21 (length-decimal n) (length-spaced u) in
+    let three = both (decimal n ++ spaced u) (spaced a) 41 21 two (length-spaced a) in
+    let four = both (decimal n ++ spaced u ++ spaced a) (spaced t) 62 21 three (length-spaced t) in
+    let all : length (figuresText n u a t) ≤ 84 = both (decimal n ++ spaced u ++ spaced a ++ spaced t) lineFeed 83 1 four (omega arith) in
+    omega arith
+
+short : (arena : List ℕ) (p : Printed) → byNode p ≡ false → length (lineOf arena p) ≤ 160
+short arena (Reply a) e = reply-length (paper a .number) (paper a .value)
+short arena (Figures u a t) e = figures-length (paper u .number) (paper u .value) (paper a .value) (paper t .value)
+short arena (Nodes head count) e = let z : _≡_ {A = Bool} true false = e in let w : _≡_ {A = ℕ} 0 1 = cc in absurd (omega arith)
+short arena Set e = omega arith
+short arena BadLine e = omega arith
+
+pub shown : (arena : List ℕ) (p : Printed) (text buffer left : List ℕ) (from end : ℕ) → byNode p ≡ false → lineOf arena p ≡ text → from + 160 ≤ length buffer
+    → Put (lineOf arena p) buffer from end left → Shown text buffer end left
+shown arena p text buffer left from end b e room q =
+    record { from = from; put = subst (λ (t : List ℕ). Put t buffer from end left) e q; whole = omega (arith, q .place, short arena p b, ap length e) }

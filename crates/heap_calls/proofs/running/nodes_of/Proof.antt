@@ -1,0 +1,40 @@
+use borrow.Author.Needs.{needs}
+use mathlib.Core.Path.{_≡_, refl, sym, ap, _∙_}
+use borrow.Author.Tests.{not-true, not-false}
+use Rattle.heap_state.specs.State.{state}
+use Rattle.heap_calls.proofs.Lending.{lists-unsound, lists-sound}
+use Rattle.heap_calls.proofs.running.nodes_of.Statement.{statement}
+use Rattle.heap_calls.proofs.running.nodes_of.Tie as tie
+use Rattle.heap_calls.proofs.running.nodes_of.Reads as reads
+use Rattle.heap_calls.proofs.running.nodes_of.Lts as lts
+use Rattle.heap_calls.proofs.running.count_nodes.Reads as count-nodes-reads
+use Rattle.heap_calls.proofs.running.head_of.Reads as head-of-reads
+use Rattle.heap_state.proofs.sound.Reads as sound-reads
+
+-- src/running.rt:136:9
+sound-requires : tie.Need-sound-requires
+sound-requires c κs = search needs
+
+-- src/running.rt:137:9
+returns : tie.Need-returns
+returns c =
+    let a = c .before .before .before .before .args in
+    lists-unsound (a .class) (state (a .heap) (a .arena .now) (a .ledger .now)) (sym (c .before .sound .ensures) ∙ not-true _ (c .if1 .taken))
+
+-- src/running.rt:139:9
+head-of-requires : tie.Need-head-of-requires
+head-of-requires c κs = search needs
+
+-- src/running.rt:140:26
+count-nodes-requires : tie.Need-count-nodes-requires
+count-nodes-requires c κs = search needs
+
+-- src/running.rt:133:1
+returns-2 : tie.Need-returns-2
+returns-2 c =
+    let a = c .before .before .before .before .before .before .args in
+    lists-sound (a .class) (state (a .heap) (a .arena .now) (a .ledger .now)) (c .before .head-of .result) (c .count-nodes .result) (sym (c .before .before .before .sound .ensures) ∙ not-false _ (c .before .before .if1 .left)) (c .before .head-of .ensures) (c .count-nodes .ensures)
+
+pub nodes-of-spec : {M : Type 1} → statement M
+nodes-of-spec =
+    tie.close (tie.spec sound-requires returns head-of-requires count-nodes-requires returns-2)
