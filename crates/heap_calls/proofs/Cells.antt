@@ -14,7 +14,7 @@ use Rattle.heap_calls.specs.declared.Lent.{Lent}
 use Rattle.heap_calls.specs.declared.Printed.{Printed}
 use Rattle.heap_calls.specs.declared.Printed.the-variants.{Set, BadLine}
 use Rattle.heap_calls.specs.declared.Ran.{Ran}
-use Rattle.heap_calls.specs.Run.{Machine, machine, Fits, withHeap, inside, heapWith, arenaWith, ledgerWith, withCell, after}
+use Rattle.heap_calls.specs.Run.{machine, Fits, withHeap, inside, heapWith, arenaWith, ledgerWith, withCell, after}
 use Rattle.heap_calls.specs.Text.{setLine, badLine, lineOf, byNode, printed}
 use Rattle.heap_calls.specs.Running.{Does, ranWith}
 

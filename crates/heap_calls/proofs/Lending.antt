@@ -4,7 +4,7 @@ use mathlib.Core.List.{List, _∷_, _++_}
 use mathlib.Core.Path.{_≡_, refl, sym, ap, _∙_}
 use Prim.Native.Nat.{ℕ, zero, suc, _+_, _-_, _<_, _≤_}
 use native.Mathlib.Omega.{arith}
-use lib.ListN.{length, take, drop, getD, length-append, length-take, length-drop, take-append-drop}
+use lib.ListN.{length, take, drop, getD, length-append, length-drop, take-append-drop}
 use Rattle.answers.specs.declared.Answer.the-variants.{Refused}
 use Rattle.answers.specs.declared.Refusal.the-variants.{BadState}
 use Rattle.answers.specs.Paper.{paper}
@@ -13,7 +13,6 @@ use Rattle.linked_list.specs.Links.{next, nodes}
 use Rattle.heap_core.specs.Deciding.{memory}
 use Rattle.heap_state.specs.Lists.{list}
 use Rattle.heap_state.specs.State.{State, state, isSound, Outcome, Says}
-use Rattle.heap_state.specs.declared.Heap.{Heap}
 use Rattle.heap_state.specs.declared.Reply.{Reply}
 use Rattle.heap.specs.Told.{Told}
 use Rattle.heap_calls.specs.declared.Call.{Call}
@@ -22,7 +21,7 @@ use Rattle.heap_calls.specs.declared.Lent.{Lent}
 use Rattle.heap_calls.specs.declared.Printed.{Printed}
 use Rattle.heap_calls.specs.declared.Printed.the-variants.{Reply as Printed·reply, Nodes}
 use Rattle.heap_calls.specs.declared.Ran.{Ran}
-use Rattle.heap_calls.specs.Run.{Machine, machine, nothingLent, Fits, relent, remade, callOf, after}
+use Rattle.heap_calls.specs.Run.{machine, nothingLent, Fits, relent, remade, callOf, after}
 use Rattle.heap_calls.specs.Text.{replyText, listed, addresses, lineOf, byNode, printed}
 use Rattle.heap_calls.specs.Running.{Does, Lists, Figured, ranWith, repliedWith}
 

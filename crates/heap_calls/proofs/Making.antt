@@ -3,7 +3,6 @@ use mathlib.Core.Bool.{Bool, true, false, cond, _||_}
 use mathlib.Core.List.{List, _++_}
 use mathlib.Core.Path.{_≡_, refl, sym, ap, _∙_}
 use Prim.Native.Nat.{ℕ, _<_, _≤_}
-use native.Mathlib.Omega.{arith}
 use borrow.Author.Tests.{eq-eqb, ne-eqb, lt-ltb, le-ltb}
 use lib.Dec.{eqb, ltb}
 use lib.ListN.{length, take, drop, replicate, length-replicate, take-append-drop}
@@ -16,7 +15,7 @@ use Rattle.heap_calls.specs.declared.Command.the-variants.{Make}
 use Rattle.heap_calls.specs.declared.Lent.{Lent}
 use Rattle.heap_calls.specs.declared.Printed.the-variants.{BadLine}
 use Rattle.heap_calls.specs.declared.Ran.{Ran}
-use Rattle.heap_calls.specs.Run.{Machine, machine, withHeap, lending, tooMany, made, afterMaking, after}
+use Rattle.heap_calls.specs.Run.{machine, withHeap, lending, tooMany, made, afterMaking, after}
 use Rattle.heap_calls.specs.Text.{badLine, outcomeText, lineOf, byNode, printed}
 use Rattle.heap_calls.specs.Running.{Does, ranWith, repliedWith}
 use Rattle.heap_calls.proofs.Lending.{reply-line, replied-line, replied-short}
@@ -47,9 +46,6 @@ making-keeps order a l h = refused-keeps (orderb order) (lengthsb (length a) (le
 
 -- ---- the command
 module _ (order words records : ℕ) (lent : Lent) (arena ledger : List ℕ) (r : Ran) where
-  m : Machine
-  m = machine lent arena ledger
-
   pub does-too-many : tooMany words records ≡ true → r ≡ ranWith lent BadLine → Does (Make order words records) (machine lent arena ledger) r arena ledger
   unfolding after printed
   does-too-many h e =

@@ -1,5 +1,5 @@
 -- What the promises of the code say: of a command, of a line, of a chunk of the input, and of its end.
-use mathlib.Core.Bool.{Bool, false}
+use mathlib.Core.Bool.{false}
 use mathlib.Core.List.{List}
 use mathlib.Core.Path.{_≡_}
 use Prim.Native.Nat.{ℕ, _+_}

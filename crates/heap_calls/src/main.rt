@@ -8,7 +8,6 @@ mod showing;
 
 use answers::Answer;
 use heap_state::Heap;
-use libc::STDOUT_FILENO;
 
 // The calls on a heap that change it.
 enum Call {

@@ -1,6 +1,6 @@
 // The lines of the input, one after the other, however it is cut into chunks.
 ghost use mathlib.Core.Path.{_≡_};
-ghost use Prim.Native.Nat.{_+_, _≤_, _<_};
+ghost use Prim.Native.Nat.{_≤_, _<_};
 ghost use lib.ListN.{length, take};
 ghost use Rattle.heap_calls.specs.Run.{machine, Fits, nothingLent};
 ghost use Rattle.heap_calls.specs.Running.{lineAfter, ShownShort, Took, Ended, EndedWords};

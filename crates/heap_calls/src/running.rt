@@ -1,12 +1,11 @@
 // A command run on the heap that is lent.
 ghost use mathlib.Core.Path.{_≡_};
-ghost use Prim.Native.Nat.{_≤_};
 ghost use lib.ListN.{length, getD};
 ghost use Rattle.heap_state.specs.State.{state};
 ghost use Rattle.heap.specs.Told.{Told};
 ghost use Rattle.linked_list.specs.Links.{nodes};
 ghost use Rattle.heap_calls.specs.Run.{machine, callOf, Fits};
-ghost use Rattle.heap_calls.specs.Running.{Does, ranWith, repliedWith, Lists, Figured};
+ghost use Rattle.heap_calls.specs.Running.{Does, repliedWith, Lists, Figured};
 use crate::Call;
 use crate::Command;
 use crate::Lent;

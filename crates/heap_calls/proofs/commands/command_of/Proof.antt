@@ -1,86 +1,65 @@
-use mathlib.Core.Path.{_≡_, sym, ap, _∙_}
+-- `heap_calls::commands::command_of` meets its contract: what the line says, under its name. Assumes nothing.
+use mathlib.Core.Path.{sym, ap, _∙_}
 use borrow.Author.Needs.{needs}
 use Rattle.lines.specs.Line.{lineSaid}
 use Rattle.heap_calls.specs.Command.{commandOf, commandSaid}
 use Rattle.heap_calls.proofs.commands.command_of.Statement.{statement}
 use Rattle.heap_calls.proofs.commands.command_of.Tie as tie
-use Rattle.heap_calls.proofs.commands.command_of.Reads as reads
-use Rattle.heap_calls.proofs.commands.command_of.Lts as lts
-use Rattle.heap_calls.proofs.commands.of_none.Reads as of-none-reads
-use Rattle.heap_calls.proofs.commands.of_one.Reads as of-one-reads
-use Rattle.heap_calls.proofs.commands.of_three.Reads as of-three-reads
-use Rattle.heap_calls.proofs.commands.of_two.Reads as of-two-reads
-use Rattle.lines.proofs.say.Reads as say-reads
 
--- src/commands.rt:91:11
 say-requires : tie.Need-say-requires
 say-requires c κs = search needs
 
--- src/commands.rt:92:20
 enum-known-len : tie.Need-enum-known-len
 enum-known-len c = search needs
 
--- src/commands.rt:92:28
 of-none-requires : tie.Need-of-none-requires
 of-none-requires c κs = search needs
 
--- src/commands.rt:93:19
 enum-known-len-2 : tie.Need-enum-known-len-2
 enum-known-len-2 c = search needs
 
--- src/commands.rt:93:30
 of-one-requires : tie.Need-of-one-requires
 of-one-requires c κs = search needs
 
--- src/commands.rt:94:19
 enum-known-len-3 : tie.Need-enum-known-len-3
 enum-known-len-3 c = search needs
 
--- src/commands.rt:94:33
 of-two-requires : tie.Need-of-two-requires
 of-two-requires c κs = search needs
 
--- src/commands.rt:95:21
 enum-known-len-4 : tie.Need-enum-known-len-4
 enum-known-len-4 c = search needs
 
--- src/commands.rt:95:38
 of-three-requires : tie.Need-of-three-requires
 of-three-requires c κs = search needs
 
--- src/commands.rt:96:22
 enum-told : tie.Need-enum-told
 enum-told c = search needs
 
--- src/commands.rt:88:1
 returns : tie.Need-returns
 unfolding commandOf
 returns c =
     let y = c .before .before .before .before in
     c .of-none .ensures ∙ ap commandSaid (ap (lineSaid (y .before .before .args .line .now)) (sym (c .before .before .len .given .1)) ∙ y .say .ensures .0)
 
--- src/commands.rt:88:1
 returns-2 : tie.Need-returns-2
 unfolding commandOf
 returns-2 c =
     let y = c .before .before .before .before in
     c .of-one .ensures ∙ ap commandSaid (ap (lineSaid (y .before .before .args .line .now)) (sym (c .before .before .len2 .given .1)) ∙ y .say .ensures .0)
 
--- src/commands.rt:88:1
 returns-3 : tie.Need-returns-3
 unfolding commandOf
 returns-3 c =
     let y = c .before .before .before .before in
     c .of-two .ensures ∙ ap commandSaid (ap (lineSaid (y .before .before .args .line .now)) (sym (c .before .before .len3 .given .1)) ∙ y .say .ensures .0)
 
--- src/commands.rt:88:1
 returns-4 : tie.Need-returns-4
 unfolding commandOf
 returns-4 c =
     let y = c .before .before .before .before in
     c .of-three .ensures ∙ ap commandSaid (ap (lineSaid (y .before .before .args .line .now)) (sym (c .before .before .len4 .given .1)) ∙ y .say .ensures .0)
 
--- src/commands.rt:88:1
 returns-5 : tie.Need-returns-5
 unfolding commandOf
 returns-5 c =

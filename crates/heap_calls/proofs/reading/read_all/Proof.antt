@@ -1,3 +1,4 @@
+-- `heap_calls::reading::read_all` meets its contract: the places stay within their buffers, and the turns fall. Assumes nothing.
 use borrow.Author.Needs.{needs}
 use Prim.Native.Nat.{_≤_}
 use mathlib.Core.Path.{_≡_}
@@ -7,10 +8,6 @@ use Rattle.heap_calls.specs.Run.{Fits}
 use Rattle.heap_calls.proofs.Lending.{fits-nothing}
 use Rattle.heap_calls.proofs.reading.read_all.Statement.{statement}
 use Rattle.heap_calls.proofs.reading.read_all.Tie as tie
-use Rattle.heap_calls.proofs.reading.read_all.Reads as reads
-use Rattle.heap_calls.proofs.reading.read_all.Lts as lts
-use Rattle.heap_calls.proofs.reading.nothing_lent.Reads as nothing-lent-reads
-use Rattle.heap_calls.proofs.reading.read_some.Reads as read-some-reads
 
 abbrev Inv-loop : tie.InvT-loop
 Inv-loop held₀ arena₀ ledger₀ out₀ step₀ turns₀ held arena ledger out step turns =
@@ -19,68 +16,52 @@ Inv-loop held₀ arena₀ ledger₀ out₀ step₀ turns₀ held arena ledger ou
 abbrev μ-loop : tie.MeasureT-loop
 μ-loop held₀ arena₀ ledger₀ out₀ step₀ turns₀ held arena ledger out step turns = turns
 
--- src/reading.rt:157:15
 nothing-lent-requires : tie.Need-nothing-lent-requires Inv-loop μ-loop
 nothing-lent-requires c κs = search needs
 
--- src/reading.rt:161:5
 loop-holds : tie.Need-loop-holds Inv-loop μ-loop
 loop-holds c =
     (search needs, search needs, fits-nothing _ _ _ (c .nothing-lent .ensures) (omega arith) (omega arith), search needs, search needs, search needs)
 
--- src/reading.rt:164:9
 read-some-requires : tie.Need-read-some-requires Inv-loop μ-loop
 read-some-requires c κs = search needs
 
--- src/reading.rt:165:9
 sub-turns : tie.Need-sub-turns Inv-loop μ-loop
 sub-turns c = search needs
 
--- src/reading.rt:161:5
 loop-less : tie.Need-loop-less Inv-loop μ-loop
 loop-less c = search needs
 
--- src/reading.rt:161:5
 loop-again : tie.Need-loop-again Inv-loop μ-loop
 loop-again c = search needs
 
--- src/reading.rt:142:1
 same-length : tie.Need-same-length Inv-loop μ-loop
 same-length c = search needs
 
--- src/reading.rt:142:1
 same-length-2 : tie.Need-same-length-2 Inv-loop μ-loop
 same-length-2 c = search needs
 
--- src/reading.rt:142:1
 same-length-3 : tie.Need-same-length-3 Inv-loop μ-loop
 same-length-3 c = search needs
 
--- src/reading.rt:142:1
 same-length-4 : tie.Need-same-length-4 Inv-loop μ-loop
 same-length-4 c = search needs
 
--- src/reading.rt:142:1
 returns : tie.Need-returns Inv-loop μ-loop
 returns c = search needs
 
--- src/reading.rt:142:1
 same-length-5 : tie.Need-same-length-5 Inv-loop μ-loop
 same-length-5 c = search needs
 
--- src/reading.rt:142:1
 same-length-6 : tie.Need-same-length-6 Inv-loop μ-loop
 same-length-6 c = search needs
 
--- src/reading.rt:142:1
 same-length-7 : tie.Need-same-length-7 Inv-loop μ-loop
 same-length-7 c = search needs
 
--- src/reading.rt:142:1
 same-length-8 : tie.Need-same-length-8 Inv-loop μ-loop
 same-length-8 c = search needs
 
--- src/reading.rt:142:1
 returns-2 : tie.Need-returns-2 Inv-loop μ-loop
 returns-2 c = search needs
 

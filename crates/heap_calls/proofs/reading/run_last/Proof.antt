@@ -1,41 +1,31 @@
+-- `heap_calls::reading::run_last` meets its contract: nothing is held of an empty line alone. Assumes nothing.
 use borrow.Author.Needs.{needs}
-use mathlib.Core.Path.{_≡_, refl, sym, ap, _∙_}
-use Prim.Native.Nat.{ℕ, _+_, _-_, _<_, _≤_}
+use Prim.Native.Nat.{_-_, _<_}
 use native.Mathlib.Omega.{arith}
-use lib.ListN.{length, take, drop}
 use Rattle.lines.proofs.Going.{last-none, last-some}
 use Rattle.heap_calls.specs.Run.{machine}
 use Rattle.heap_calls.specs.Running.{lineAfter}
 use Rattle.heap_calls.proofs.Lines.{enough}
 use Rattle.heap_calls.proofs.reading.run_last.Statement.{statement}
 use Rattle.heap_calls.proofs.reading.run_last.Tie as tie
-use Rattle.heap_calls.proofs.reading.run_last.Reads as reads
-use Rattle.heap_calls.proofs.reading.run_last.Lts as lts
-use Rattle.heap_calls.proofs.reading.run_line.Reads as run-line-reads
 
--- src/reading.rt:182:9
 returns : tie.Need-returns
 returns c =
     let a = c .before .before .before .before .before .args in
     (search needs, (search needs, last-none lineAfter (a .held .now) (machine (a .lent) (a .arena .now) (a .ledger .now)) (a .len) (omega arith)))
 
--- src/reading.rt:187:5
 run-line-requires : tie.Need-run-line-requires
 run-line-requires c κs = search needs
 
--- src/reading.rt:164:1
 same-length : tie.Need-same-length
 same-length c = search needs
 
--- src/reading.rt:164:1
 same-length-2 : tie.Need-same-length-2
 same-length-2 c = search needs
 
--- src/reading.rt:164:1
 same-length-3 : tie.Need-same-length-3
 same-length-3 c = search needs
 
--- src/reading.rt:164:1
 returns-2 : tie.Need-returns-2
 returns-2 c =
     let a = c .before .before .before .before .before .before .before .before .before .before .before .before .before .before .before .args in

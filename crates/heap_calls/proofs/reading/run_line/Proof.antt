@@ -1,8 +1,9 @@
+-- `heap_calls::reading::run_line` meets its contract: the command that the held bytes are was run. Assumes nothing.
 use borrow.Author.Needs.{needs}
 use mathlib.Core.Bool.{false}
-use mathlib.Core.Path.{_≡_, refl, sym, ap, _∙_}
+use mathlib.Core.Path.{_≡_, sym, ap, _∙_}
 use native.Mathlib.Omega.{arith}
-use lib.ListN.{length, take, drop}
+use lib.ListN.{take}
 use lib.Seq.{length-take-le}
 use Rattle.heap_calls.specs.declared.Command.{Command}
 use Rattle.heap_calls.specs.Command.{commandOf}
@@ -11,54 +12,37 @@ use Rattle.heap_calls.specs.Text.{printed, byNode, isLong}
 use Rattle.heap_calls.proofs.Lines.{shown}
 use Rattle.heap_calls.proofs.reading.run_line.Statement.{statement}
 use Rattle.heap_calls.proofs.reading.run_line.Tie as tie
-use Rattle.heap_calls.proofs.reading.run_line.Reads as reads
-use Rattle.heap_calls.proofs.reading.run_line.Lts as lts
-use Rattle.heap_calls.proofs.commands.command_of.Reads as command-of-reads
-use Rattle.heap_calls.proofs.running.run.Reads as run-reads
-use Rattle.heap_calls.proofs.showing.put_printed.Reads as put-printed-reads
-use Rattle.heap_calls.proofs.showing.room.Reads as room-reads
 
--- src/reading.rt:44:30
 slice-aggregate-command-of : tie.Need-slice-aggregate-command-of
 slice-aggregate-command-of c = let a = c .before .before .before .before .before .args in sym (length-take-le (a .len) (a .held .now) (omega arith))
 
--- src/reading.rt:44:19
 command-of-requires : tie.Need-command-of-requires
 command-of-requires c κs = search needs
 
--- src/reading.rt:44:9
 run-requires : tie.Need-run-requires
 run-requires c κs = search needs
 
--- src/reading.rt:48:9
 room-requires : tie.Need-room-requires
 room-requires c κs = search needs
 
--- src/reading.rt:49:33
 slice-reshare-prefix-put-printed : tie.Need-slice-reshare-prefix-put-printed
 slice-reshare-prefix-put-printed c = search needs
 
--- src/reading.rt:49:33
 slice-aggregate-put-printed : tie.Need-slice-aggregate-put-printed
 slice-aggregate-put-printed c = let r = c .before .before .before .before .before .before .before .before .run in sym (length-take-le (r .result .lent .words) (r .last .1 .1 .0) (omega (arith, r .ensures .1 .arena-is, r .ensures .1 .words-fit)))
 
--- src/reading.rt:49:9
 put-printed-requires : tie.Need-put-printed-requires
 put-printed-requires c κs = search needs
 
--- src/reading.rt:26:1
 same-length : tie.Need-same-length
 same-length c = search needs
 
--- src/reading.rt:26:1
 same-length-2 : tie.Need-same-length-2
 same-length-2 c = search needs
 
--- src/reading.rt:26:1
 same-length-3 : tie.Need-same-length-3
 same-length-3 c = search needs
 
--- src/reading.rt:26:1
 returns : tie.Need-returns
 returns c =
     let a = c .before .before .before .before .before .before .before .before .before .before .before .before .before .before .before .before .before .before .before .before .before .args in

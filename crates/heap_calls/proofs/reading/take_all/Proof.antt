@@ -1,10 +1,11 @@
+-- `heap_calls::reading::take_all` meets its contract: the loop's invariant is that the places stay within their buffers, and that the reading of the chunk has come so far. Assumes nothing.
 use borrow.Author.Needs.{needs}
 use mathlib.Core.List.{List}
-use mathlib.Core.Path.{_≡_, refl, sym, ap, _∙_}
-use Prim.Native.Nat.{ℕ, _+_, _-_, _<_, _≤_}
+use mathlib.Core.Path.{_≡_, ap, _∙_}
+use Prim.Native.Nat.{ℕ, _-_, _≤_}
 use native.Mathlib.Omega.{arith}
 use lib.ListN.{length, drop, length-drop}
-use lib.Seq.{sets, length-sets}
+use lib.Seq.{length-sets}
 use Rattle.lines.specs.Gather.{lineHere}
 use Rattle.lines.specs.Running.{Holds}
 use Rattle.lines.specs.declared.Gathered.{Gathered}
@@ -15,10 +16,6 @@ use Rattle.heap_calls.specs.Running.{lineAfter}
 use Rattle.heap_calls.proofs.Lines.{enough}
 use Rattle.heap_calls.proofs.reading.take_all.Statement.{statement}
 use Rattle.heap_calls.proofs.reading.take_all.Tie as tie
-use Rattle.heap_calls.proofs.reading.take_all.Reads as reads
-use Rattle.heap_calls.proofs.reading.take_all.Lts as lts
-use Rattle.heap_calls.proofs.reading.run_line.Reads as run-line-reads
-use Rattle.lines.proofs.gather.Reads as gather-reads
 
 abbrev Inv-loop : tie.InvT-loop
 Inv-loop chunk held₀ arena₀ ledger₀ out₀ now₀ len₀ at₀ from₀ held arena ledger out now len at from =
@@ -28,17 +25,14 @@ Inv-loop chunk held₀ arena₀ ledger₀ out₀ now₀ len₀ at₀ from₀ hel
 abbrev μ-loop : tie.MeasureT-loop
 μ-loop chunk held₀ arena₀ ledger₀ out₀ now₀ len₀ at₀ from₀ held arena ledger out now len at from = length chunk - from
 
--- src/reading.rt:80:5
 loop-holds : tie.Need-loop-holds Inv-loop μ-loop
 loop-holds c =
     let a = c .before .before .before .before .before .args in
     (search needs, search needs, search needs, search needs, search needs, λ line h. begun lineAfter (a .chunk .now) line (machine (a .lent) (a .arena .now) (a .ledger .now)) (a .held .now) (a .place .held) h)
 
--- src/reading.rt:81:13
 gather-requires : tie.Need-gather-requires Inv-loop μ-loop
 gather-requires c κs = search needs
 
--- src/reading.rt:84:17
 run-line-requires : tie.Need-run-line-requires Inv-loop μ-loop
 run-line-requires c κs =
     let g = c .before .before .before .before .before .before .before in
@@ -48,7 +42,6 @@ run-line-requires c κs =
     let long = ap length (g .gather .ensures .1) ∙ length-sets (l .held) (l .len) (lineHere (drop (l .from) (a .chunk .now))) in
     (omega (arith, len, long), (omega (arith, l .inv .1), (omega (arith, l .inv .3, c .before .before .before .before .before .before .before .before .before .before .before .before .before .before .before .before .pre .1 .1 .1 .0), l .inv .4)))
 
--- src/reading.rt:80:5
 loop-less : tie.Need-loop-less Inv-loop μ-loop
 loop-less c =
     let g = c .before .before .before .before .before .before .before .before .before .before .before .before .before .before .before in
@@ -58,7 +51,6 @@ loop-less c =
     let on = moves (drop (l .from) (a .chunk .now)) (l .from) (length (l .held)) (l .len) (omega (arith, length-drop (l .from) (a .chunk .now))) in
     omega (arith, to, on)
 
--- src/reading.rt:80:5
 loop-again : tie.Need-loop-again Inv-loop μ-loop
 loop-again c =
     let g = c .before .before .before .before .before .before .before .before .before .before .before .before .before .before .before in
@@ -74,7 +66,6 @@ loop-again c =
       λ line h. turn-ended lineAfter enough (a .chunk .now) line (machine (a .lent) (a .arena .now) (a .ledger .now)) (l .from) (l .held) (l .len) (machine (l .now) (l .arena) (l .ledger)) (l .inv .2) (l .inv .0) (l .inv .5 line h) (g .gather .result) (g .gather .last .1 .1 .0) (g .gather .ensures .0) (g .gather .ensures .1) (machine (r .result .lent) (r .last .1 .1 .1 .0) (r .last .1 .1 .1 .1 .0)) (c .before .before .before .before .before .before .before .before .before .before .before .before .if1 .taken) (r .ensures .1 .1 .0),
     )
 
--- src/reading.rt:80:5
 loop-less-2 : tie.Need-loop-less-2 Inv-loop μ-loop
 loop-less-2 c =
     let g = c .before .before .before in
@@ -84,7 +75,6 @@ loop-less-2 c =
     let on = moves (drop (l .from) (a .chunk .now)) (l .from) (length (l .held)) (l .len) (omega (arith, length-drop (l .from) (a .chunk .now))) in
     omega (arith, to, on)
 
--- src/reading.rt:80:5
 loop-again-2 : tie.Need-loop-again-2 Inv-loop μ-loop
 loop-again-2 c =
     let g = c .before .before .before in
@@ -100,23 +90,18 @@ loop-again-2 c =
       λ line h. turn-open lineAfter enough (a .chunk .now) line (machine (a .lent) (a .arena .now) (a .ledger .now)) (l .from) (l .held) (l .len) (machine (l .now) (l .arena) (l .ledger)) (l .inv .2) (l .inv .0) (l .inv .5 line h) (g .gather .result) (g .gather .last .1 .1 .0) (g .gather .ensures .0) (g .gather .ensures .1) (c .if1 .left),
     )
 
--- src/reading.rt:57:1
 same-length : tie.Need-same-length Inv-loop μ-loop
 same-length c = search needs
 
--- src/reading.rt:57:1
 same-length-2 : tie.Need-same-length-2 Inv-loop μ-loop
 same-length-2 c = search needs
 
--- src/reading.rt:57:1
 same-length-3 : tie.Need-same-length-3 Inv-loop μ-loop
 same-length-3 c = search needs
 
--- src/reading.rt:57:1
 same-length-4 : tie.Need-same-length-4 Inv-loop μ-loop
 same-length-4 c = search needs
 
--- src/reading.rt:57:1
 returns : tie.Need-returns Inv-loop μ-loop
 returns c =
     let l = c .before .loop in

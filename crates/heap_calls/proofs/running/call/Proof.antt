@@ -1,50 +1,38 @@
+-- `heap_calls::running::call` meets its contract: a call on the words that are lent leaves the others. Assumes nothing.
 use borrow.Author.Needs.{needs}
-use mathlib.Core.Path.{_≡_, refl, sym, ap, _∙_}
-use Prim.Native.Nat.{ℕ, _+_, _-_, _<_, _≤_}
+use mathlib.Core.Path.{_≡_, sym, _∙_}
+use Prim.Native.Nat.{_-_}
 use native.Mathlib.Omega.{arith}
-use lib.ListN.{length, take, drop}
+use lib.ListN.{length}
 use lib.Seq.{length-take-le}
 use Rattle.heap_calls.proofs.Lending.{does-call, fits-lending}
 use Rattle.heap_calls.proofs.running.call.Statement.{statement}
 use Rattle.heap_calls.proofs.running.call.Tie as tie
-use Rattle.heap_calls.proofs.running.call.Reads as reads
-use Rattle.heap_calls.proofs.running.call.Lts as lts
-use Rattle.heap_calls.proofs.running.called.Reads as called-reads
-use Rattle.heap_calls.proofs.running.replied.Reads as replied-reads
 
--- src/running.rt:104:36
 slice-relend-prefix-called : tie.Need-slice-relend-prefix-called
 slice-relend-prefix-called c = search needs
 
--- src/running.rt:104:36
 slice-aggregate-called : tie.Need-slice-aggregate-called
 slice-aggregate-called c = let a = c .before .before .before .before .args in sym (length-take-le (a .lent .words) (a .arena .now) (omega (arith, c .before .before .before .before .pre .arena-is, c .before .before .before .before .pre .words-fit)))
 
--- src/running.rt:104:53
 slice-relend-prefix-called-2 : tie.Need-slice-relend-prefix-called-2
 slice-relend-prefix-called-2 c = search needs
 
--- src/running.rt:104:53
 slice-aggregate-called-2 : tie.Need-slice-aggregate-called-2
 slice-aggregate-called-2 c = let a = c .before .before .before .before .before .args in sym (length-take-le (a .lent .records) (a .ledger .now) (omega (arith, c .before .before .before .before .before .pre .ledger-is, c .before .before .before .before .before .pre .records-fit)))
 
--- src/running.rt:104:9
 called-requires : tie.Need-called-requires
 called-requires c κs = search needs
 
--- src/running.rt:105:5
 replied-requires : tie.Need-replied-requires
 replied-requires c κs = search needs
 
--- src/running.rt:96:1
 same-length : tie.Need-same-length
 same-length c = search needs
 
--- src/running.rt:96:1
 same-length-2 : tie.Need-same-length-2
 same-length-2 c = search needs
 
--- src/running.rt:96:1
 returns : tie.Need-returns
 returns c =
     let a = c .before .before .before .before .before .before .before .before .before .before .before .args in

@@ -1,112 +1,80 @@
+-- `heap_calls::running::called` meets its contract: each call of `heap` has its outcome. Assumes nothing.
 use borrow.Author.Needs.{needs}
-use mathlib.Core.Path.{_≡_, refl, sym, ap, _∙_}
 use Rattle.heap_calls.proofs.running.called.Statement.{statement}
 use Rattle.heap_calls.proofs.running.called.Tie as tie
-use Rattle.heap_calls.proofs.running.called.Reads as reads
-use Rattle.heap_calls.proofs.running.called.Lts as lts
-use Rattle.heap.proofs.add_to_heap.Reads as add-to-heap-reads
-use Rattle.heap.proofs.alloc.Reads as alloc-reads
-use Rattle.heap.proofs.dealloc.Reads as dealloc-reads
-use Rattle.heap.proofs.init.Reads as init-reads
-use Rattle.heap.proofs.zero_fill.Reads as zero-fill-reads
 
--- src/running.rt:88:19
 enum-known-call : tie.Need-enum-known-call
 enum-known-call c = search needs
 
--- src/running.rt:88:34
 add-to-heap-requires : tie.Need-add-to-heap-requires
 add-to-heap-requires c κs = search needs
 
--- src/running.rt:89:20
 enum-known-call-2 : tie.Need-enum-known-call-2
 enum-known-call-2 c = search needs
 
--- src/running.rt:89:36
 init-requires : tie.Need-init-requires
 init-requires c κs = search needs
 
--- src/running.rt:90:21
 enum-known-call-3 : tie.Need-enum-known-call-3
 enum-known-call-3 c = search needs
 
--- src/running.rt:90:37
 alloc-requires : tie.Need-alloc-requires
 alloc-requires c κs = search needs
 
--- src/running.rt:91:20
 enum-known-call-4 : tie.Need-enum-known-call-4
 enum-known-call-4 c = search needs
 
--- src/running.rt:91:40
 dealloc-requires : tie.Need-dealloc-requires
 dealloc-requires c κs = search needs
 
--- src/running.rt:92:20
 enum-known-call-5 : tie.Need-enum-known-call-5
 enum-known-call-5 c = search needs
 
--- src/running.rt:92:40
 zero-fill-requires : tie.Need-zero-fill-requires
 zero-fill-requires c κs = search needs
 
--- src/running.rt:84:1
 same-length : tie.Need-same-length
 same-length c = search needs
 
--- src/running.rt:84:1
 same-length-2 : tie.Need-same-length-2
 same-length-2 c = search needs
 
--- src/running.rt:84:1
 returns : tie.Need-returns
 returns c = rw (c .before .before .before .before .before .before .call .given .1) (c .before .before .add-to-heap .ensures)
 
--- src/running.rt:84:1
 same-length-3 : tie.Need-same-length-3
 same-length-3 c = search needs
 
--- src/running.rt:84:1
 same-length-4 : tie.Need-same-length-4
 same-length-4 c = search needs
 
--- src/running.rt:84:1
 returns-2 : tie.Need-returns-2
 returns-2 c = rw (c .before .before .before .before .before .before .call2 .given .1) (c .before .before .init .ensures)
 
--- src/running.rt:84:1
 same-length-5 : tie.Need-same-length-5
 same-length-5 c = search needs
 
--- src/running.rt:84:1
 same-length-6 : tie.Need-same-length-6
 same-length-6 c = search needs
 
--- src/running.rt:84:1
 returns-3 : tie.Need-returns-3
 returns-3 c = rw (c .before .before .before .before .before .before .before .before .call3 .given .1) (c .before .before .before .before .alloc .ensures)
 
--- src/running.rt:84:1
 same-length-7 : tie.Need-same-length-7
 same-length-7 c = search needs
 
--- src/running.rt:84:1
 same-length-8 : tie.Need-same-length-8
 same-length-8 c = search needs
 
--- src/running.rt:84:1
 returns-4 : tie.Need-returns-4
 returns-4 c = rw (c .before .before .before .before .before .before .before .before .call4 .given .1) (c .before .before .before .before .dealloc .ensures)
 
--- src/running.rt:84:1
 same-length-9 : tie.Need-same-length-9
 same-length-9 c = search needs
 
--- src/running.rt:84:1
 same-length-10 : tie.Need-same-length-10
 same-length-10 c = search needs
 
--- src/running.rt:84:1
 returns-5 : tie.Need-returns-5
 returns-5 c = rw (c .before .before .before .before .before .before .call5 .given .1) (c .before .before .zero-fill .ensures)
 

@@ -1,15 +1,13 @@
+-- `heap_calls::running::count_nodes` meets its contract: the loop's invariant is that the nodes so far and those to come are the list's. Assumes nothing.
 use borrow.Author.Needs.{needs}
 use Rattle.heap_calls.proofs.Lending.{count-end, count-none, count-step}
-use Prim.Native.Nat.{ℕ, suc, _+_, _-_, _<_, _≤_}
-use mathlib.Core.Path.{_≡_, refl, sym, ap, _∙_}
+use Prim.Native.Nat.{ℕ, suc, _+_, _-_, _≤_}
+use mathlib.Core.Path.{_≡_, sym, ap, _∙_}
 use native.Mathlib.Omega.{arith}
 use lib.ListN.{length}
 use Rattle.linked_list.specs.Links.{next, nodes}
 use Rattle.heap_calls.proofs.running.count_nodes.Statement.{statement}
 use Rattle.heap_calls.proofs.running.count_nodes.Tie as tie
-use Rattle.heap_calls.proofs.running.count_nodes.Reads as reads
-use Rattle.heap_calls.proofs.running.count_nodes.Lts as lts
-use Rattle.linked_list.proofs.next.Reads as next-reads
 
 abbrev Inv-loop : tie.InvT-loop
 Inv-loop head arena node₀ count₀ node count =
@@ -18,33 +16,27 @@ Inv-loop head arena node₀ count₀ node count =
 abbrev μ-loop : tie.MeasureT-loop
 μ-loop head arena node₀ count₀ node count = length arena - count
 
--- src/running.rt:123:5
 loop-holds : tie.Need-loop-holds Inv-loop μ-loop
 loop-holds c =
     let a = c .before .args in
     let all : length (a .arena .now) - 0 ≡ length (a .arena .now) = omega arith in
     (omega arith, omega (arith, ap (λ (k : ℕ). length (nodes k (a .arena .now) (a .head))) all))
 
--- src/running.rt:125:13
 returns : tie.Need-returns Inv-loop μ-loop
 returns c =
     let l = c .before .before .loop in
     let a = c .before .before .before .before .args in
     omega (arith, l .inv .1, count-end (length (a .arena .now) - l .count) (a .arena .now) (l .node) (omega (arith, c .if1 .taken)))
 
--- src/running.rt:127:9
 add-count : tie.Need-add-count Inv-loop μ-loop
 add-count c = search needs
 
--- src/running.rt:128:9
 next-requires : tie.Need-next-requires Inv-loop μ-loop
 next-requires c κs = search needs
 
--- src/running.rt:123:5
 loop-less : tie.Need-loop-less Inv-loop μ-loop
 loop-less c = search needs
 
--- src/running.rt:123:5
 loop-again : tie.Need-loop-again Inv-loop μ-loop
 loop-again c =
     let l = c .before .before .before .loop in
@@ -54,7 +46,6 @@ loop-again c =
     let node : c .next .result ≡ next (a .arena .now) (l .node) = c .next .ensures in
     (omega arith, omega (arith, l .inv .1, step ∙ (λ i. suc (length (nodes (fewer i) (a .arena .now) (sym node i))))))
 
--- src/running.rt:118:1
 returns-2 : tie.Need-returns-2 Inv-loop μ-loop
 returns-2 c =
     let l = c .before .loop in

@@ -1,27 +1,19 @@
+-- `heap_calls::running::figures` meets its contract: each figure has its outcome. Assumes nothing.
 use borrow.Author.Needs.{needs}
-use mathlib.Core.Path.{_≡_, refl, sym, ap, _∙_}
+use mathlib.Core.Path.{refl}
 use Rattle.heap_calls.specs.Text.{figuresText}
 use Rattle.heap_calls.proofs.running.figures.Statement.{statement}
 use Rattle.heap_calls.proofs.running.figures.Tie as tie
-use Rattle.heap_calls.proofs.running.figures.Reads as reads
-use Rattle.heap_calls.proofs.running.figures.Lts as lts
-use Rattle.heap.proofs.stats_alloc_actual.Reads as stats-alloc-actual-reads
-use Rattle.heap.proofs.stats_alloc_user.Reads as stats-alloc-user-reads
-use Rattle.heap.proofs.stats_total_bytes.Reads as stats-total-bytes-reads
 
--- src/running.rt:161:9
 stats-alloc-user-requires : tie.Need-stats-alloc-user-requires
 stats-alloc-user-requires c κs = search needs
 
--- src/running.rt:162:9
 stats-alloc-actual-requires : tie.Need-stats-alloc-actual-requires
 stats-alloc-actual-requires c κs = search needs
 
--- src/running.rt:163:9
 stats-total-bytes-requires : tie.Need-stats-total-bytes-requires
 stats-total-bytes-requires c κs = search needs
 
--- src/running.rt:158:1
 returns : tie.Need-returns
 returns c =
     let u = c .before .before .stats-alloc-user .ensures in

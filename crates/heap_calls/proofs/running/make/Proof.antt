@@ -1,80 +1,60 @@
+-- `heap_calls::running::make` meets its contract: too many words, a refusal, and a heap that is made. Assumes nothing.
 use borrow.Author.Needs.{needs}
 use mathlib.Core.Bool.{false}
-use mathlib.Core.Path.{_≡_, refl, sym, ap, _∙_}
-use Prim.Native.Nat.{ℕ, _+_, _-_, _<_, _≤_}
+use mathlib.Core.Path.{_≡_, sym, _∙_}
+use Prim.Native.Nat.{_-_, _≤_}
 use native.Mathlib.Omega.{arith}
-use lib.ListN.{length, take, drop}
+use lib.ListN.{length, take}
 use lib.Seq.{length-take-le}
 use Rattle.heap_calls.proofs.Lending.{fits-ledger, fits-lending}
 use Rattle.heap_calls.proofs.Cells.{fits-record}
 use Rattle.heap_calls.proofs.Making.{does-too-many, does-refused, does-make, too-many-words, too-many-records, few-enough}
 use Rattle.heap_calls.proofs.running.make.Statement.{statement}
 use Rattle.heap_calls.proofs.running.make.Tie as tie
-use Rattle.heap_calls.proofs.running.make.Reads as reads
-use Rattle.heap_calls.proofs.running.make.Lts as lts
-use Rattle.answers.proofs.number.Reads as number-reads
-use Rattle.heap_calls.proofs.running.replied.Reads as replied-reads
-use Rattle.heap_calls.proofs.setting.bad_line.Reads as bad-line-reads
-use Rattle.heap_state.proofs.Heap.new.Reads as new-reads
-use Rattle.words.proofs.clear.Reads as clear-reads
 
--- src/running.rt:56:9
 bad-line-requires : tie.Need-bad-line-requires
 bad-line-requires c κs = search needs
 
--- src/running.rt:56:9
 returns : tie.Need-returns
 returns c =
     let a = c .before .before .before .before .args in
     (does-too-many (a .order) (a .words) (a .records) (a .lent) (a .arena .now) (a .ledger .now) (c .bad-line .result) (too-many-words (a .words) (a .records) (omega (arith, c .before .if1 .taken))) (c .bad-line .ensures), fits-record (a .lent) (a .arena .now) (a .ledger .now) (c .before .before .before .before .pre) false (a .lent .heap) (c .bad-line .result) (c .bad-line .ensures))
 
--- src/running.rt:59:9
 bad-line-requires-2 : tie.Need-bad-line-requires-2
 bad-line-requires-2 c κs = search needs
 
--- src/running.rt:59:9
 returns-2 : tie.Need-returns-2
 returns-2 c =
     let a = c .before .before .before .before .before .args in
     (does-too-many (a .order) (a .words) (a .records) (a .lent) (a .arena .now) (a .ledger .now) (c .bad-line2 .result) (too-many-records (a .words) (a .records) (omega (arith, c .before .if2 .taken))) (c .bad-line2 .ensures), fits-record (a .lent) (a .arena .now) (a .ledger .now) (c .before .before .before .before .before .pre) false (a .lent .heap) (c .bad-line2 .result) (c .bad-line2 .ensures))
 
--- src/running.rt:63:34
 slice-reshare-prefix-new : tie.Need-slice-reshare-prefix-new
 slice-reshare-prefix-new c = search needs
 
--- src/running.rt:63:34
 slice-aggregate-new : tie.Need-slice-aggregate-new
 slice-aggregate-new c = let a = c .before .before .before .before .before .args in sym (length-take-le (a .words) (a .arena .now) (omega (arith, c .before .before .before .before .before .pre .arena-is, c .before .before .if1 .left)))
 
--- src/running.rt:63:47
 slice-relend-prefix-new : tie.Need-slice-relend-prefix-new
 slice-relend-prefix-new c = search needs
 
--- src/running.rt:63:47
 slice-aggregate-new-2 : tie.Need-slice-aggregate-new-2
 slice-aggregate-new-2 c = let a = c .before .before .before .before .before .before .args in sym (length-take-le (a .records) (a .ledger .now) (omega (arith, c .before .before .before .before .before .before .pre .ledger-is, c .before .before .if2 .left)))
 
--- src/running.rt:63:9
 new-requires : tie.Need-new-requires
 new-requires c κs = search needs
 
--- src/running.rt:65:8
 number-requires : tie.Need-number-requires
 number-requires c κs = search needs
 
--- src/running.rt:66:9
 replied-requires : tie.Need-replied-requires
 replied-requires c κs = search needs
 
--- src/running.rt:66:9
 same-length : tie.Need-same-length
 same-length c = search needs
 
--- src/running.rt:66:9
 same-length-2 : tie.Need-same-length-2
 same-length-2 c = search needs
 
--- src/running.rt:66:9
 returns-3 : tie.Need-returns-3
 returns-3 c =
     let a = c .before .before .before .before .before .before .before .before .before .before .before .before .args in
@@ -88,31 +68,24 @@ returns-3 c =
       fits-ledger (a .lent) (a .arena .now) (a .ledger .now) f (c .replied .result) (new .result) (a .lent .words) (a .lent .records) (f .words-fit) (f .records-fit) (c .replied .ensures) (new .last .1 .1 .0) (a .records) hk noted,
     )
 
--- src/running.rt:68:18
 slice-relend-prefix-clear : tie.Need-slice-relend-prefix-clear
 slice-relend-prefix-clear c = search needs
 
--- src/running.rt:68:18
 slice-aggregate-clear : tie.Need-slice-aggregate-clear
 slice-aggregate-clear c = let a = c .before .before .before .before .before .before .before .before .before .before .before .before .args in sym (length-take-le (a .words) (a .arena .now) (omega (arith, c .before .before .before .before .before .before .before .before .before .before .before .before .pre .arena-is, c .before .before .before .before .before .before .before .before .before .if1 .left)))
 
--- src/running.rt:68:5
 clear-requires : tie.Need-clear-requires
 clear-requires c κs = search needs
 
--- src/running.rt:69:5
 replied-requires-2 : tie.Need-replied-requires-2
 replied-requires-2 c κs = search needs
 
--- src/running.rt:43:1
 same-length-3 : tie.Need-same-length-3
 same-length-3 c = search needs
 
--- src/running.rt:43:1
 same-length-4 : tie.Need-same-length-4
 same-length-4 c = search needs
 
--- src/running.rt:43:1
 returns-4 : tie.Need-returns-4
 returns-4 c =
     let a = c .before .before .before .before .before .before .before .before .before .before .before .before .before .before .before .before .args in

@@ -1,35 +1,26 @@
+-- `heap_calls::running::nodes_of` meets its contract: an unsound heap is refused, and of a sound one the nodes are counted. Assumes nothing.
 use borrow.Author.Needs.{needs}
-use mathlib.Core.Path.{_≡_, refl, sym, ap, _∙_}
+use mathlib.Core.Path.{sym, _∙_}
 use borrow.Author.Tests.{not-true, not-false}
 use Rattle.heap_state.specs.State.{state}
 use Rattle.heap_calls.proofs.Lending.{lists-unsound, lists-sound}
 use Rattle.heap_calls.proofs.running.nodes_of.Statement.{statement}
 use Rattle.heap_calls.proofs.running.nodes_of.Tie as tie
-use Rattle.heap_calls.proofs.running.nodes_of.Reads as reads
-use Rattle.heap_calls.proofs.running.nodes_of.Lts as lts
-use Rattle.heap_calls.proofs.running.count_nodes.Reads as count-nodes-reads
-use Rattle.heap_calls.proofs.running.head_of.Reads as head-of-reads
-use Rattle.heap_state.proofs.sound.Reads as sound-reads
 
--- src/running.rt:136:9
 sound-requires : tie.Need-sound-requires
 sound-requires c κs = search needs
 
--- src/running.rt:137:9
 returns : tie.Need-returns
 returns c =
     let a = c .before .before .before .before .args in
     lists-unsound (a .class) (state (a .heap) (a .arena .now) (a .ledger .now)) (sym (c .before .sound .ensures) ∙ not-true _ (c .if1 .taken))
 
--- src/running.rt:139:9
 head-of-requires : tie.Need-head-of-requires
 head-of-requires c κs = search needs
 
--- src/running.rt:140:26
 count-nodes-requires : tie.Need-count-nodes-requires
 count-nodes-requires c κs = search needs
 
--- src/running.rt:133:1
 returns-2 : tie.Need-returns-2
 returns-2 c =
     let a = c .before .before .before .before .before .before .args in

@@ -1,42 +1,32 @@
+-- `heap_calls::running::remake` meets its contract: a heap made again over the words that are lent. Assumes nothing.
 use borrow.Author.Needs.{needs}
-use mathlib.Core.Path.{_≡_, refl, sym, ap, _∙_}
-use Prim.Native.Nat.{ℕ, _+_, _-_, _<_, _≤_}
+use mathlib.Core.Path.{_≡_, sym, _∙_}
+use Prim.Native.Nat.{_-_}
 use native.Mathlib.Omega.{arith}
-use lib.ListN.{length, take, drop}
+use lib.ListN.{length}
 use lib.Seq.{length-take-le}
 use Rattle.heap_calls.proofs.Lending.{does-remake, fits-ledger}
 use Rattle.heap_calls.proofs.running.remake.Statement.{statement}
 use Rattle.heap_calls.proofs.running.remake.Tie as tie
-use Rattle.heap_calls.proofs.running.remake.Reads as reads
-use Rattle.heap_calls.proofs.running.remake.Lts as lts
-use Rattle.heap_calls.proofs.running.replied.Reads as replied-reads
-use Rattle.heap_state.proofs.Heap.new.Reads as new-reads
 
--- src/running.rt:79:34
 slice-aggregate-new : tie.Need-slice-aggregate-new
 slice-aggregate-new c = let a = c .before .before .before .args in sym (length-take-le (a .lent .words) (a .arena .now) (omega (arith, c .before .before .before .pre .arena-is, c .before .before .before .pre .words-fit)))
 
--- src/running.rt:79:47
 slice-relend-prefix-new : tie.Need-slice-relend-prefix-new
 slice-relend-prefix-new c = search needs
 
--- src/running.rt:79:47
 slice-aggregate-new-2 : tie.Need-slice-aggregate-new-2
 slice-aggregate-new-2 c = let a = c .before .before .before .before .args in sym (length-take-le (a .lent .records) (a .ledger .now) (omega (arith, c .before .before .before .before .pre .ledger-is, c .before .before .before .before .pre .records-fit)))
 
--- src/running.rt:79:9
 new-requires : tie.Need-new-requires
 new-requires c κs = search needs
 
--- src/running.rt:80:5
 replied-requires : tie.Need-replied-requires
 replied-requires c κs = search needs
 
--- src/running.rt:72:1
 same-length : tie.Need-same-length
 same-length c = search needs
 
--- src/running.rt:72:1
 returns : tie.Need-returns
 returns c =
     let a = c .before .before .before .before .before .before .before .before .args in

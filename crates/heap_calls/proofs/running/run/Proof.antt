@@ -1,148 +1,106 @@
+-- `heap_calls::running::run` meets its contract: each command does what the definition says. Assumes nothing.
 use borrow.Author.Needs.{needs}
 use mathlib.Core.Bool.{false}
-use mathlib.Core.Path.{_≡_, refl, sym, ap, _∙_}
 use Rattle.heap_calls.proofs.Cells.{does-bad, fits-record}
 use Rattle.heap_calls.proofs.running.run.Statement.{statement}
 use Rattle.heap_calls.proofs.running.run.Tie as tie
-use Rattle.heap_calls.proofs.running.run.Reads as reads
-use Rattle.heap_calls.proofs.running.run.Lts as lts
-use Rattle.heap_calls.proofs.running.call.Reads as call-reads
-use Rattle.heap_calls.proofs.running.list.Reads as list-reads
-use Rattle.heap_calls.proofs.running.make.Reads as make-reads
-use Rattle.heap_calls.proofs.running.remake.Reads as remake-reads
-use Rattle.heap_calls.proofs.running.stats.Reads as stats-reads
-use Rattle.heap_calls.proofs.setting.bad_line.Reads as bad-line-reads
-use Rattle.heap_calls.proofs.setting.set.Reads as set-reads
 
--- src/running.rt:188:23
 enum-known-command : tie.Need-enum-known-command
 enum-known-command c = search needs
 
--- src/running.rt:188:49
 make-requires : tie.Need-make-requires
 make-requires c κs = search needs
 
--- src/running.rt:189:25
 enum-known-command-2 : tie.Need-enum-known-command-2
 enum-known-command-2 c = search needs
 
--- src/running.rt:189:35
 remake-requires : tie.Need-remake-requires
 remake-requires c κs = search needs
 
--- src/running.rt:190:23
 enum-known-command-3 : tie.Need-enum-known-command-3
 enum-known-command-3 c = search needs
 
--- src/running.rt:190:30
 call-requires : tie.Need-call-requires
 call-requires c κs = search needs
 
--- src/running.rt:191:23
 enum-known-command-4 : tie.Need-enum-known-command-4
 enum-known-command-4 c = search needs
 
--- src/running.rt:191:33
 list-requires : tie.Need-list-requires
 list-requires c κs = search needs
 
--- src/running.rt:192:39
 enum-told : tie.Need-enum-told
 enum-told c = search needs
 
--- src/running.rt:192:27
 stats-requires : tie.Need-stats-requires
 stats-requires c κs = search needs
 
--- src/running.rt:193:22
 enum-known-command-5 : tie.Need-enum-known-command-5
 enum-known-command-5 c = search needs
 
--- src/running.rt:193:38
 set-requires : tie.Need-set-requires
 set-requires c κs = search needs
 
--- src/running.rt:194:25
 enum-told-2 : tie.Need-enum-told-2
 enum-told-2 c = search needs
 
--- src/running.rt:194:25
 bad-line-requires : tie.Need-bad-line-requires
 bad-line-requires c κs = search needs
 
--- src/running.rt:182:1
 same-length : tie.Need-same-length
 same-length c = search needs
 
--- src/running.rt:182:1
 same-length-2 : tie.Need-same-length-2
 same-length-2 c = search needs
 
--- src/running.rt:182:1
 returns : tie.Need-returns
 returns c = rw (c .before .before .before .before .before .before .before .before .command .given .1) (c .before .before .before .before .make .ensures .0, c .before .before .before .before .make .ensures .1)
 
--- src/running.rt:182:1
 same-length-3 : tie.Need-same-length-3
 same-length-3 c = search needs
 
--- src/running.rt:182:1
 same-length-4 : tie.Need-same-length-4
 same-length-4 c = search needs
 
--- src/running.rt:182:1
 returns-2 : tie.Need-returns-2
 returns-2 c = rw (c .before .before .before .before .before .before .command2 .given .1) (c .before .before .remake .ensures .0, c .before .before .remake .ensures .1)
 
--- src/running.rt:182:1
 same-length-5 : tie.Need-same-length-5
 same-length-5 c = search needs
 
--- src/running.rt:182:1
 same-length-6 : tie.Need-same-length-6
 same-length-6 c = search needs
 
--- src/running.rt:182:1
 returns-3 : tie.Need-returns-3
 returns-3 c = rw (c .before .before .before .before .before .before .before .before .command3 .given .1) (c .before .before .before .before .call .ensures .0, c .before .before .before .before .call .ensures .1)
 
--- src/running.rt:182:1
 same-length-7 : tie.Need-same-length-7
 same-length-7 c = search needs
 
--- src/running.rt:182:1
 same-length-8 : tie.Need-same-length-8
 same-length-8 c = search needs
 
--- src/running.rt:182:1
 returns-4 : tie.Need-returns-4
 returns-4 c = rw (c .before .before .before .before .command4 .given .1) (c .list .ensures .0, c .list .ensures .1)
 
--- src/running.rt:182:1
 same-length-9 : tie.Need-same-length-9
 same-length-9 c = search needs
 
--- src/running.rt:182:1
 same-length-10 : tie.Need-same-length-10
 same-length-10 c = search needs
 
--- src/running.rt:182:1
 returns-5 : tie.Need-returns-5
 returns-5 c = rw (c .before .before .before .enum-told .given .1) (c .stats .ensures .0, c .stats .ensures .1)
 
--- src/running.rt:182:1
 same-length-11 : tie.Need-same-length-11
 same-length-11 c = search needs
 
--- src/running.rt:182:1
 same-length-12 : tie.Need-same-length-12
 same-length-12 c = search needs
 
--- src/running.rt:182:1
 returns-6 : tie.Need-returns-6
 returns-6 c = rw (c .before .before .before .before .before .before .before .before .command5 .given .1) (c .before .before .before .before .set .ensures .0, c .before .before .before .before .set .ensures .1)
 
--- src/running.rt:182:1
 returns-7 : tie.Need-returns-7
 returns-7 c =
     let a = c .before .before .before .before .before .args in

@@ -1,131 +1,101 @@
+-- `heap_calls::setting::set` meets its contract: each cell is put where it is within what is lent. Assumes nothing.
 use borrow.Author.Needs.{needs}
 use mathlib.Core.Bool.{true}
-use mathlib.Core.Path.{_≡_, refl, sym, ap, _∙_}
+use mathlib.Core.Path.{refl}
 use Rattle.heap_calls.specs.declared.Cell.the-variants.{Count, User, Allocated, Total, Order}
 use Rattle.heap_calls.proofs.Cells.{does-arena, does-ledger, does-record, fits-record, fits-words, head-set}
 use Rattle.heap_calls.proofs.setting.set.Statement.{statement}
 use Rattle.heap_calls.proofs.setting.set.Tie as tie
-use Rattle.heap_calls.proofs.setting.set.Reads as reads
-use Rattle.heap_calls.proofs.setting.set.Lts as lts
-use Rattle.heap_calls.proofs.setting.set_head.Reads as set-head-reads
-use Rattle.heap_calls.proofs.setting.set_word.Reads as set-word-reads
-use Rattle.heap_calls.proofs.setting.with_heap.Reads as with-heap-reads
 
--- src/setting.rt:69:21
 enum-known-cell : tie.Need-enum-known-cell
 enum-known-cell c = search needs
 
--- src/setting.rt:71:19
 set-word-requires : tie.Need-set-word-requires
 set-word-requires c κs = search needs
 
--- src/setting.rt:73:22
 enum-known-cell-2 : tie.Need-enum-known-cell-2
 enum-known-cell-2 c = search needs
 
--- src/setting.rt:75:19
 set-word-requires-2 : tie.Need-set-word-requires-2
 set-word-requires-2 c κs = search needs
 
--- src/setting.rt:77:20
 enum-known-cell-3 : tie.Need-enum-known-cell-3
 enum-known-cell-3 c = search needs
 
--- src/setting.rt:77:30
 set-head-requires : tie.Need-set-head-requires
 set-head-requires c κs = search needs
 
--- src/setting.rt:79:13
 enum-told : tie.Need-enum-told
 enum-told c = search needs
 
--- src/setting.rt:80:13
 with-heap-requires : tie.Need-with-heap-requires
 with-heap-requires c κs = search needs
 
--- src/setting.rt:83:13
 enum-told-2 : tie.Need-enum-told-2
 enum-told-2 c = search needs
 
--- src/setting.rt:84:13
 with-heap-requires-2 : tie.Need-with-heap-requires-2
 with-heap-requires-2 c κs = search needs
 
--- src/setting.rt:87:13
 enum-told-3 : tie.Need-enum-told-3
 enum-told-3 c = search needs
 
--- src/setting.rt:88:13
 with-heap-requires-3 : tie.Need-with-heap-requires-3
 with-heap-requires-3 c κs = search needs
 
--- src/setting.rt:91:13
 enum-told-4 : tie.Need-enum-told-4
 enum-told-4 c = search needs
 
--- src/setting.rt:92:13
 with-heap-requires-4 : tie.Need-with-heap-requires-4
 with-heap-requires-4 c κs = search needs
 
--- src/setting.rt:95:13
 enum-told-5 : tie.Need-enum-told-5
 enum-told-5 c = search needs
 
--- src/setting.rt:96:13
 with-heap-requires-5 : tie.Need-with-heap-requires-5
 with-heap-requires-5 c κs = search needs
 
--- src/setting.rt:62:1
 same-length : tie.Need-same-length
 same-length c = search needs
 
--- src/setting.rt:62:1
 returns : tie.Need-returns
 returns c =
     let a = c .before .before .before .before .before .before .before .before .before .before .args in
     rw (c .before .before .before .before .before .cell .given .1) (does-arena _ (a .value) (a .lent) (a .arena .now) (a .ledger .now) (c .before .before .set-word .result) (c .before .before .set-word .last .1 .1 .1 .0) (c .before .before .set-word .ensures .0) (c .before .before .set-word .ensures .1), fits-words (a .lent) (a .arena .now) (a .ledger .now) (c .before .before .before .before .before .before .before .before .before .before .pre) (c .before .before .set-word .last .1 .1 .1 .0) (a .ledger .now) (c .before .before .set-word .kept .1 .1 .1 .0) refl)
 
--- src/setting.rt:62:1
 same-length-2 : tie.Need-same-length-2
 same-length-2 c = search needs
 
--- src/setting.rt:62:1
 returns-2 : tie.Need-returns-2
 returns-2 c =
     let a = c .before .before .before .before .before .before .before .before .before .before .args in
     rw (c .before .before .before .before .before .cell2 .given .1) (does-ledger _ (a .value) (a .lent) (a .arena .now) (a .ledger .now) (c .before .before .set-word2 .result) (c .before .before .set-word2 .last .1 .1 .1 .0) (c .before .before .set-word2 .ensures .0) (c .before .before .set-word2 .ensures .1), fits-words (a .lent) (a .arena .now) (a .ledger .now) (c .before .before .before .before .before .before .before .before .before .before .pre) (a .arena .now) (c .before .before .set-word2 .last .1 .1 .1 .0) refl (c .before .before .set-word2 .kept .1 .1 .1 .0))
 
--- src/setting.rt:62:1
 returns-3 : tie.Need-returns-3
 returns-3 c =
     let a = c .before .before .before .before .before .before .before .args in
     rw (c .before .before .cell3 .given .1) (head-set _ (a .value) (a .lent) (a .arena .now) (a .ledger .now) (c .before .before .before .before .before .before .before .pre) (c .set-head .result) (c .set-head .ensures))
 
--- src/setting.rt:62:1
 returns-4 : tie.Need-returns-4
 returns-4 c =
     let a = c .before .before .before .before .before .before .args in
     rw (c .before .enum-told .given .1) (does-record Count (a .value) (a .lent) (a .arena .now) (a .ledger .now) (c .with-heap .result) refl refl (c .with-heap .ensures), fits-record (a .lent) (a .arena .now) (a .ledger .now) (c .before .before .before .before .before .before .pre) true _ (c .with-heap .result) (c .with-heap .ensures))
 
--- src/setting.rt:62:1
 returns-5 : tie.Need-returns-5
 returns-5 c =
     let a = c .before .before .before .before .before .before .args in
     rw (c .before .enum-told2 .given .1) (does-record User (a .value) (a .lent) (a .arena .now) (a .ledger .now) (c .with-heap2 .result) refl refl (c .with-heap2 .ensures), fits-record (a .lent) (a .arena .now) (a .ledger .now) (c .before .before .before .before .before .before .pre) true _ (c .with-heap2 .result) (c .with-heap2 .ensures))
 
--- src/setting.rt:62:1
 returns-6 : tie.Need-returns-6
 returns-6 c =
     let a = c .before .before .before .before .before .before .args in
     rw (c .before .enum-told3 .given .1) (does-record Allocated (a .value) (a .lent) (a .arena .now) (a .ledger .now) (c .with-heap3 .result) refl refl (c .with-heap3 .ensures), fits-record (a .lent) (a .arena .now) (a .ledger .now) (c .before .before .before .before .before .before .pre) true _ (c .with-heap3 .result) (c .with-heap3 .ensures))
 
--- src/setting.rt:62:1
 returns-7 : tie.Need-returns-7
 returns-7 c =
     let a = c .before .before .before .before .before .before .args in
     rw (c .before .enum-told4 .given .1) (does-record Total (a .value) (a .lent) (a .arena .now) (a .ledger .now) (c .with-heap4 .result) refl refl (c .with-heap4 .ensures), fits-record (a .lent) (a .arena .now) (a .ledger .now) (c .before .before .before .before .before .before .pre) true _ (c .with-heap4 .result) (c .with-heap4 .ensures))
 
--- src/setting.rt:62:1
 returns-8 : tie.Need-returns-8
 returns-8 c =
     let a = c .before .before .before .before .before .before .args in

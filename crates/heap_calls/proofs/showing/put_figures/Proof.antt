@@ -1,73 +1,52 @@
+-- `heap_calls::showing::put_figures` meets its contract: text after text. Assumes nothing.
 use borrow.Author.Needs.{needs}
-use mathlib.Core.Path.{_≡_, refl, sym, ap, _∙_}
+use mathlib.Core.Path.{sym}
 use Rattle.lines.proofs.Putting.{then}
 use Rattle.heap_calls.proofs.showing.put_figures.Statement.{statement}
 use Rattle.heap_calls.proofs.showing.put_figures.Tie as tie
-use Rattle.heap_calls.proofs.showing.put_figures.Reads as reads
-use Rattle.heap_calls.proofs.showing.put_figures.Lts as lts
-use Rattle.answers.proofs.number.Reads as number-reads
-use Rattle.answers.proofs.value.Reads as value-reads
-use Rattle.lines.proofs.put_with.Reads as put-with-reads
-use Rattle.lines.proofs.put.Reads as put-reads
-use Rattle.lines.proofs.put_number.Reads as put-number-reads
 
--- src/showing.rt:46:28
 number-requires : tie.Need-number-requires
 number-requires c κs = search needs
 
--- src/showing.rt:46:9
 put-number-requires : tie.Need-put-number-requires
 put-number-requires c κs = search needs
 
--- src/showing.rt:47:27
 slice-aggregate-put-with : tie.Need-slice-aggregate-put-with
 slice-aggregate-put-with c = search needs
 
--- src/showing.rt:47:33
 value-requires : tie.Need-value-requires
 value-requires c κs = search needs
 
--- src/showing.rt:47:9
 put-with-requires : tie.Need-put-with-requires
 put-with-requires c κs = search needs
 
--- src/showing.rt:48:26
 slice-aggregate-put-with-2 : tie.Need-slice-aggregate-put-with-2
 slice-aggregate-put-with-2 c = search needs
 
--- src/showing.rt:48:32
 value-requires-2 : tie.Need-value-requires-2
 value-requires-2 c κs = search needs
 
--- src/showing.rt:48:9
 put-with-requires-2 : tie.Need-put-with-requires-2
 put-with-requires-2 c κs = search needs
 
--- src/showing.rt:49:27
 slice-aggregate-put-with-3 : tie.Need-slice-aggregate-put-with-3
 slice-aggregate-put-with-3 c = search needs
 
--- src/showing.rt:49:33
 value-requires-3 : tie.Need-value-requires-3
 value-requires-3 c κs = search needs
 
--- src/showing.rt:49:9
 put-with-requires-3 : tie.Need-put-with-requires-3
 put-with-requires-3 c κs = search needs
 
--- src/showing.rt:50:9
 slice-aggregate-put : tie.Need-slice-aggregate-put
 slice-aggregate-put c = search needs
 
--- src/showing.rt:50:5
 put-requires : tie.Need-put-requires
 put-requires c κs = search needs
 
--- src/showing.rt:43:1
 same-length : tie.Need-same-length
 same-length c = search needs
 
--- src/showing.rt:43:1
 returns : tie.Need-returns
 returns c = rw (sym (c .before .before .before .before .before .before .before .before .before .before .before .before .before .before .before .before .before .before .before .before .before .before .before .before .before .before .before .number .ensures), sym (c .before .before .before .before .before .before .before .before .before .before .before .before .before .before .before .before .before .before .before .before .before .value .ensures), sym (c .before .before .before .before .before .before .before .before .before .before .before .before .before .before .before .value2 .ensures), sym (c .before .before .before .before .before .before .before .before .before .value3 .ensures)) (then (then (then (then (c .before .before .before .before .before .before .before .before .before .before .before .before .before .before .before .before .before .before .before .before .before .before .before .before .before .put-number .ensures) (c .before .before .before .before .before .before .before .before .before .before .before .before .before .before .before .before .before .before .before .put-with .ensures)) (c .before .before .before .before .before .before .before .before .before .before .before .before .before .put-with2 .ensures)) (c .before .before .before .before .before .before .before .put-with3 .ensures)) (c .before .before .put .ensures))
 

@@ -1,30 +1,23 @@
+-- `heap_calls::showing::room` meets its contract: there is room for a piece. Assumes nothing.
 use mathlib.Core.Path.{sym}
 use borrow.Author.Needs.{needs}
 use native.Mathlib.Omega.{arith}
 use lib.Seq.{length-take-le}
 use Rattle.heap_calls.proofs.showing.room.Statement.{statement}
 use Rattle.heap_calls.proofs.showing.room.Tie as tie
-use Rattle.heap_calls.proofs.showing.room.Reads as reads
-use Rattle.heap_calls.proofs.showing.room.Lts as lts
-use Rattle.io.proofs.write_all.Reads as write-all-reads
 
--- src/showing.rt:26:8
 sub-if1 : tie.Need-sub-if1
 sub-if1 c = search needs
 
--- src/showing.rt:27:38
 slice-aggregate-write-all : tie.Need-slice-aggregate-write-all
 slice-aggregate-write-all c = let a = c .before .before .before .args in sym (length-take-le (a .at) (a .out .now) (omega arith))
 
--- src/showing.rt:27:9
 write-all-requires : tie.Need-write-all-requires
 write-all-requires c κs = search needs
 
--- src/showing.rt:28:9
 returns : tie.Need-returns
 returns c = search needs
 
--- src/showing.rt:21:1
 returns-2 : tie.Need-returns-2
 returns-2 c = search needs
 
