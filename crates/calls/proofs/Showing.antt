@@ -5,9 +5,9 @@ use Prim.Native.Nat.{ℕ, _+_, _≤_}
 use native.Mathlib.Omega.{arith}
 use lib.ListN.{length}
 use Rattle.answers.specs.Paper.{paper}
-use Rattle.lines.specs.Put.{Put}
+use Rattle.lines.specs.Put.{Put, Shown}
 use Rattle.lines.proofs.Lengths.{reply-length}
-use Rattle.calls.specs.Run.{badLine, lineOf, Shown}
+use Rattle.calls.specs.Run.{lineOf}
 use Rattle.calls.specs.declared.Printed.{Printed}
 use Rattle.calls.specs.declared.Printed.the-variants.{Reply, BadLine}
 

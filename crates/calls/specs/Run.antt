@@ -1,26 +1,19 @@
 -- What a command of `calls` prints and leaves, from docs/RULES.md, "The lines of `calls`".
 use mathlib.Core.Bool.{Bool, true, false}
 use mathlib.Core.List.{List, [], _∷_}
-use mathlib.Core.Path.{_≡_}
-use Prim.Native.Nat.{ℕ, _+_}
+use Prim.Native.Nat.{ℕ}
 use lib.Dec.{eqb}
-use lib.ListN.{length}
 use Rattle.answers.specs.Paper.{paper}
 use Rattle.frame.specs.Outcome as frame
 use Rattle.frame_core.specs.Carried.{Reply, Outcome}
 use Rattle.table.specs.Layout.{markOf, classOf, startOf}
-use Rattle.lines.specs.Bytes.{bytes}
 use Rattle.lines.specs.Command.{commandOf}
-use Rattle.lines.specs.Put.{Put}
 use Rattle.lines.specs.Running as running
-use Rattle.lines.specs.Text.{replyText, recordText}
+use Rattle.lines.specs.Text.{badLine, replyText, recordText}
 use Rattle.lines.specs.declared.Command.{Command}
 use Rattle.lines.specs.declared.Command.the-variants.{Order, Add, Alloc, At, Free, Bad}
 use Rattle.calls.specs.declared.Printed.{Printed}
 use Rattle.calls.specs.declared.Printed.the-variants.{Reply as Printed·reply, BadLine}
-
-abbrev pub badLine : List ℕ
-badLine = bytes "bad line\n"
 
 abbrev pub first : List ℕ → ℕ
 first [] = 0
@@ -63,12 +56,6 @@ lineOf BadLine = badLine
 -- "each record as start, class, and `granted` or `free`": the line of a record's word
 abbrev pub blockLine : ℕ → List ℕ
 blockLine w = recordText (startOf w) (classOf w) (eqb (markOf w) 1)
-
--- a text stands whole in a buffer, from some place on
-pub record Shown (text buffer : List ℕ) (after : ℕ) (left : List ℕ) : Type 0 where
-  pub from : ℕ
-  pub put : Put text buffer from after left
-  pub whole : after ≡ from + length text
 
 -- ---- line after line
 

@@ -15,7 +15,8 @@ use Rattle.heap_calls.specs.declared.Printed.{Printed}
 use Rattle.heap_calls.specs.declared.Printed.the-variants.{Set, BadLine}
 use Rattle.heap_calls.specs.declared.Ran.{Ran}
 use Rattle.heap_calls.specs.Run.{machine, Fits, withHeap, inside, heapWith, arenaWith, ledgerWith, withCell, after}
-use Rattle.heap_calls.specs.Text.{setLine, badLine, lineOf, byNode, printed}
+use Rattle.lines.specs.Text.{badLine}
+use Rattle.heap_calls.specs.Text.{setLine, lineOf, byNode, printed}
 use Rattle.heap_calls.specs.Running.{Does, ranWith}
 
 line-of : (t : Bool) (arena : List ℕ) → lineOf arena (cond t Set BadLine) ≡ cond t setLine badLine

@@ -7,7 +7,7 @@ use native.Mathlib.Omega.{arith}
 use lib.ListN.{length, take, length-append}
 use Rattle.answers.specs.Paper.{paper}
 use Rattle.lines.specs.Line.{Line}
-use Rattle.lines.specs.Put.{Put}
+use Rattle.lines.specs.Put.{Put, Shown}
 use Rattle.lines.specs.Text.{decimal, lineFeed}
 use Rattle.lines.proofs.Feeding.{line-enough}
 use Rattle.lines.proofs.Lengths.{length-decimal}
@@ -16,7 +16,7 @@ use Rattle.heap_calls.specs.declared.Printed.the-variants.{Reply, Figure
 use Rattle.heap_calls.specs.Command.{commandSaid, commandOf}
 use Rattle.heap_calls.specs.Run.{Machine, after}
 use Rattle.heap_calls.specs.Text.{spaced, replyText, figuresText, lineOf, byNode}
-use Rattle.heap_calls.specs.Running.{lineAfter, Shown}
+use Rattle.heap_calls.specs.Running.{lineAfter}
 
 pub enough : (l : List ℕ) (m : Machine) → lineAfter (take 81 l) m ≡ lineAfter l m
 unfolding commandOf

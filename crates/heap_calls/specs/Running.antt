@@ -2,14 +2,14 @@
 use mathlib.Core.Bool.{false}
 use mathlib.Core.List.{List}
 use mathlib.Core.Path.{_≡_}
-use Prim.Native.Nat.{ℕ, _+_}
-use lib.ListN.{length, take}
+use Prim.Native.Nat.{ℕ}
+use lib.ListN.{take}
 use Rattle.heap_core.specs.Deciding.{memory}
 use Rattle.heap_state.specs.Lists.{list}
 use Rattle.heap_state.specs.State.{State, isSound}
 use Rattle.heap_state.specs.declared.Reply.{Reply}
 use Rattle.lines.specs.Gather.{lastLine}
-use Rattle.lines.specs.Put.{Put}
+use Rattle.lines.specs.Put.{Shown}
 use Rattle.lines.specs.Running as running
 use Rattle.heap_calls.specs.declared.Command.{Command}
 use Rattle.heap_calls.specs.declared.Lent.{Lent}
@@ -41,12 +41,6 @@ pub record Does (command : Command) (before : Machine) (r : Ran) (arena ledger :
   pub machine-is : machine (r .lent) arena ledger ≡ after command before
   pub line-is : lineOf (take (r .lent .words) arena) (r .line) ≡ printed command before
   pub long-is : byNode (r .line) ≡ isLong command before
-
--- a text stands whole in a buffer, from some place on
-pub record Shown (text buffer : List ℕ) (after : ℕ) (left : List ℕ) : Type 0 where
-  pub from : ℕ
-  pub put : Put text buffer from after left
-  pub whole : after ≡ from + length text
 
 abbrev pub lineAfter : List ℕ → Machine → Machine
 lineAfter line m = after (commandOf line) m

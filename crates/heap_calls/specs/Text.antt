@@ -6,7 +6,7 @@ use lib.ListN.{length}
 use Rattle.answers.specs.Paper.{paper}
 use Rattle.linked_list.specs.Links.{nodes}
 use Rattle.lines.specs.Bytes.{bytes}
-use Rattle.lines.specs.Text.{decimal, lineFeed}
+use Rattle.lines.specs.Text.{decimal, lineFeed, badLine}
 use Rattle.heap_state.specs.Lists.{list}
 use Rattle.heap_state.specs.State.{State, Outcome, isSound}
 use Rattle.heap_core.specs.Deciding.{memory}
@@ -16,9 +16,6 @@ use Rattle.heap_calls.specs.declared.Command.the-variants.{Make, Remake,
 use Rattle.heap_calls.specs.declared.Printed.{Printed}
 use Rattle.heap_calls.specs.declared.Printed.the-variants.{Reply, Figures, Nodes, Set, BadLine}
 use Rattle.heap_calls.specs.Run.{Machine, lentState, tooMany, made, remade, callOf, inside}
-
-abbrev pub badLine : List ℕ
-badLine = bytes "bad line\n"
 
 abbrev pub setLine : List ℕ
 setLine = bytes "set\n"

@@ -12,3 +12,9 @@ placeAfter room at count = min (at + count) (max at room)
 pub record Put (text buffer : List ℕ) (at after : ℕ) (left : List ℕ) : Type 0 where
   pub bytes : left ≡ sets buffer at text
   pub place : after ≡ placeAfter (length buffer) at (length text)
+
+-- a text stands whole in a buffer, from some place on
+pub record Shown (text buffer : List ℕ) (after : ℕ) (left : List ℕ) : Type 0 where
+  pub from : ℕ
+  pub put : Put text buffer from after left
+  pub whole : after ≡ from + length text

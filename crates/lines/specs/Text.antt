@@ -17,6 +17,10 @@ decimal n = cond (eqb n 0) (bytes "0") (digits 20 n)
 abbrev pub lineFeed : List ℕ
 lineFeed = bytes "\n"
 
+-- "else it prints `bad line`", each program
+abbrev pub badLine : List ℕ
+badLine = bytes "bad line\n"
+
 -- "It prints `ok`, a start, or `no` and the number"
 abbrev pub replyText : ℕ → ℕ → Bool → List ℕ
 replyText number value valued =

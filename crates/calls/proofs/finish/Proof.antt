@@ -1,7 +1,6 @@
 -- `calls::finish` meets its contract. Assumes nothing.
 use mathlib.Core.Path.{sym}
 use borrow.Author.Needs.{needs}
-use native.Mathlib.Omega.{arith}
 use lib.Seq.{length-take-le}
 use Rattle.calls.proofs.finish.Statement.{statement}
 use Rattle.calls.proofs.finish.Tie as tie

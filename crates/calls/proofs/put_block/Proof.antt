@@ -1,7 +1,5 @@
 -- `calls::put_block` meets its contract: the line of the word's fields is put. Assumes nothing.
-use mathlib.Core.Path.{_≡_, sym}
-use Prim.Native.Nat.{_≤_}
-use native.Mathlib.Omega.{arith}
+use mathlib.Core.Path.{sym}
 use borrow.Author.Needs.{needs}
 use Rattle.calls.proofs.put_block.Statement.{statement}
 use Rattle.calls.proofs.put_block.Tie as tie

@@ -1,5 +1,5 @@
 -- `calls::put_printed` meets its contract: the line's text is put. Assumes nothing.
-use mathlib.Core.Path.{_≡_, sym, ap, subst, _∙_}
+use mathlib.Core.Path.{sym}
 use borrow.Author.Needs.{needs}
 use Rattle.calls.proofs.put_printed.Statement.{statement}
 use Rattle.calls.proofs.put_printed.Tie as tie

@@ -1,6 +1,6 @@
 -- `calls::run` meets its contract: each call of `frame` has its outcome. Assumes nothing.
 use mathlib.Core.Bool.{true, false}
-use mathlib.Core.Path.{_≡_, refl, sym, ap, _∙_}
+use mathlib.Core.Path.{ap}
 use borrow.Author.Needs.{needs}
 use Rattle.frame_core.specs.Carried.{Reply}
 use Rattle.calls.specs.Run.{replyLine}

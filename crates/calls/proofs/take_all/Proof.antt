@@ -1,12 +1,12 @@
 -- `calls::take_all` meets its contract. The loop's invariant: the places stay within their buffers, and the reading of the chunk has come so far.
 -- Each turn takes some of the chunk. Assumes nothing.
-use Prim.Native.Nat.{ℕ, _≤_, _<_, _-_}
+use Prim.Native.Nat.{ℕ, _≤_, _-_}
 use mathlib.Core.List.{List}
-use mathlib.Core.Path.{_≡_, sym, ap, _∙_}
+use mathlib.Core.Path.{_≡_, ap, _∙_}
 use borrow.Author.Needs.{needs}
 use native.Mathlib.Omega.{arith}
 use lib.ListN.{length, drop, length-drop}
-use lib.Seq.{sets, length-sets}
+use lib.Seq.{length-sets}
 use Rattle.lines.specs.Gather.{lineHere}
 use Rattle.lines.specs.Running.{Holds}
 use Rattle.lines.specs.declared.Gathered.{Gathered}
