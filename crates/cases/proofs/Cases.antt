@@ -10,8 +10,10 @@ use Rattle.blocks.specs.Blocks.{sizeOf, sizeClass, firstHolding, rounded, large
 use Rattle.rules.specs.Rules.{cutFrom, cut, added, towards, serving, containing, joined, released, halved}
 use Rattle.table.specs.Layout.{wordsOf}
 use Rattle.table.specs.Sound.{headb, recordb, soundb}
-use Rattle.frame_core.specs.Deciding.{adding, granting, grantingAt, releasing}
 use Rattle.frame_core.specs.Carried.{Outcome}
+use Rattle.frame_add.specs.Adding.{adding}
+use Rattle.frame_grant.specs.Granting.{granting, grantingAt}
+use Rattle.frame_release.specs.Releasing.{releasing}
 use Rattle.frame.specs.Outcome.{decide, outcome, making}
 use Rattle.blocks.specs.Blocks.{roundedAligned, isPowerOfTwo}
 use Rattle.linked_list.specs.Links as links

@@ -15,8 +15,11 @@ use Rattle.blocks.proofs.Rounding.{rounding, class-is, above-is, aligned-is}
 use Rattle.table.specs.Layout.{orderOf, blocksOf}
 use Rattle.table.specs.Sound.{soundb}
 use Rattle.frame.specs.Outcome.{Call, Add, Alloc, AllocAligned, AllocAt, Dealloc, DeallocAligned, zeros, decide, outcome}
-use Rattle.frame_core.specs.Deciding.{Decision, adding, granting, grantingAt, releasing, wanted}
+use Rattle.frame_core.specs.Deciding.{Decision, wanted}
 use Rattle.frame_core.specs.Carried.{Reply, carried, Says, replyOf}
+use Rattle.frame_add.specs.Adding.{adding}
+use Rattle.frame_grant.specs.Granting.{granting, grantingAt}
+use Rattle.frame_release.specs.Releasing.{releasing}
 
 -- a class that a count is rounded to is one of the table's, or stands for Above
 pub small : (n : ℕ) → wanted (rounded n) ≤ 33

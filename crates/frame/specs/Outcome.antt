@@ -5,12 +5,16 @@ use Prim.Native.Nat.{ℕ, _-_}
 use lib.Dec.{ltb}
 use lib.ListN.{length}
 use Rattle.answers.specs.declared.Refusal.the-variants.{BadOrder, BadSize, BadState, BadAlign}
+use Rattle.answers.specs.Judging.{refused, done, refuse, judge}
 use Rattle.blocks.specs.Blocks.{rounded, roundedAligned, isPowerOfTwo}
 use Rattle.rules.specs.Rules.{Block, granted, framesOf, largestFree}
 use Rattle.table.specs.Layout.{stateOf, wordsOf}
 use Rattle.table.specs.Sound.{soundb}
-use Rattle.frame_core.specs.Deciding.{Decision, refused, done, refuse, judge, wanted, adding, granting, grantingAt, releasing}
+use Rattle.frame_core.specs.Deciding.{Decision, wanted}
 use Rattle.frame_core.specs.Carried.{Outcome, carried}
+use Rattle.frame_add.specs.Adding.{adding}
+use Rattle.frame_grant.specs.Granting.{granting, grantingAt}
+use Rattle.frame_release.specs.Releasing.{releasing}
 
 -- the calls on an existing table; `insert` is `add_frame`
 pub data Call : Type 0 where

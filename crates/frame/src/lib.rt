@@ -1,5 +1,6 @@
 // The public calls on a frame table, named as in the Rust: each tests the table first and refuses with 3, then does the work by the
-// parts in `frame_core`. None asks anything of its caller; specs/Outcome.antt says what each answers and leaves.
+// parts in `frame_add`, `frame_grant`, `frame_release` and `frame_core`. None asks anything of its caller; specs/Outcome.antt says what each
+// answers and leaves.
 
 ghost use Rattle.frame.specs.Outcome.{Add, Alloc, AllocAligned, AllocAt, Dealloc, DeallocAligned};
 ghost use Rattle.frame.specs.Told.{Made, Told, Summed};
@@ -41,7 +42,7 @@ pub fn add_frame(t: &mut [u64], start: u64, end: u64) -> Answer
     if !table::sound(t) {
         return Answer::Refused(Refusal::BadState);
     }
-    frame_core::add_range(t, start, end)
+    frame_add::add_range(t, start, end)
 }
 
 // The same, under the name that the Rust has for a range.
@@ -58,7 +59,7 @@ pub fn alloc(t: &mut [u64], count: u64) -> Answer
     if !table::sound(t) {
         return Answer::Refused(Refusal::BadState);
     }
-    frame_core::grant_block(t, blocks::round(count))
+    frame_grant::grant_block(t, blocks::round(count))
 }
 
 // Grants the run of count frames, rounded up, that starts at start.
@@ -68,7 +69,7 @@ pub fn alloc_at(t: &mut [u64], start: u64, count: u64) -> Answer
     if !table::sound(t) {
         return Answer::Refused(Refusal::BadState);
     }
-    frame_core::grant_run(t, start, blocks::round(count))
+    frame_grant::grant_run(t, start, blocks::round(count))
 }
 
 // Releases the block of count frames, rounded up, that starts at start.
@@ -78,7 +79,7 @@ pub fn dealloc(t: &mut [u64], start: u64, count: u64) -> Answer
     if !table::sound(t) {
         return Answer::Refused(Refusal::BadState);
     }
-    frame_core::release_block(t, start, blocks::round(count))
+    frame_release::release_block(t, start, blocks::round(count))
 }
 
 // Grants the larger of size, rounded up, and align, which must be a power of two.
@@ -91,7 +92,7 @@ pub fn alloc_aligned(t: &mut [u64], size: u64, align: u64) -> Answer
     if !blocks::is_power_of_two(align) {
         return Answer::Refused(Refusal::BadAlign);
     }
-    frame_core::grant_block(t, blocks::round_aligned(size, align))
+    frame_grant::grant_block(t, blocks::round_aligned(size, align))
 }
 
 // Releases the block at start that alloc_aligned grants for this size and align.
@@ -104,7 +105,7 @@ pub fn dealloc_aligned(t: &mut [u64], start: u64, size: u64, align: u64) -> Answ
     if !blocks::is_power_of_two(align) {
         return Answer::Refused(Refusal::BadAlign);
     }
-    frame_core::release_block(t, start, blocks::round_aligned(size, align))
+    frame_release::release_block(t, start, blocks::round_aligned(size, align))
 }
 
 // Frames granted, frames managed, and the size of the largest free block.

@@ -1,13 +1,4 @@
+pub mod Saying
 pub mod Records
 pub mod Pass
-pub mod Windows
-pub mod Halves
-pub mod Pieces
-pub mod Taking
-pub mod Compared
-pub mod Spans
-pub mod Releases
-pub mod Giving
-pub mod Granting
-pub mod GrantingAt
 pub mod Tallies

@@ -5,8 +5,9 @@ use Prim.Native.Nat.{ℕ}
 use lib.ListN.{length}
 use Rattle.answers.specs.declared.Answer.{Answer}
 use Rattle.answers.specs.Paper.{paper, numberOf}
+use Rattle.answers.specs.Judging.{refused, done}
 use Rattle.table.specs.Layout.{stateOf, wordsOf}
-use Rattle.frame_core.specs.Deciding.{Decision, refused, done}
+use Rattle.frame_core.specs.Deciding.{Decision}
 
 -- an answer on paper: its number, and its value or, of a summary, its three figures
 pub record Reply : Type 0 where

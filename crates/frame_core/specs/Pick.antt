@@ -1,4 +1,4 @@
--- What the pass over the records in src/pick.rt tests of each. Internal to that pass.
+-- What the pass over the records in src/picking.rt tests of each. Internal to that pass.
 use mathlib.Core.Bool.{Bool, _&&_}
 use Prim.Native.Nat.{ℕ, _/_}
 use lib.Dec.{leb, ltb}

@@ -11,6 +11,7 @@ use borrow.Author.Tests.{eqb-true, leb-false, ltb-false, not-false}
 use Rattle.answers.specs.declared.Refusal.{Refusal}
 use Rattle.answers.specs.declared.Refusal.the-variants.{BadRange, Overlap, BadAlign, Misaligned, NoBlock, NotGranted, NoRoom}
 use Rattle.answers.specs.Paper.{numberOf}
+use Rattle.answers.specs.Judging.{refused, done, Check, refuse, judge}
 use Rattle.blocks.specs.Blocks.{rounded, roundedAligned, isPowerOfTwo}
 use Rattle.rules.specs.declared.Found.{Found}
 use Rattle.rules.specs.declared.Found.the-variants.{At, Nowhere}
@@ -23,7 +24,10 @@ use Rattle.rules.proofs.Halved.{halved-leaves}
 use Rattle.rules.proofs.Freed.{released-leaves}
 use Rattle.rules.proofs.Lengths.{released-length}
 use Rattle.rules.proofs.Restored.{serving-offers, containing-offers, grant-granted, restored}
-use Rattle.frame_core.specs.Deciding.{Decision, refused, done, Check, refuse, judge, wanted, isNowhere, placeIn, noRoom, adding, grantedFrom, granting, grantingAt, releasing}
+use Rattle.frame_core.specs.Deciding.{Decision, wanted, noRoom}
+use Rattle.frame_add.specs.Adding.{adding}
+use Rattle.frame_grant.specs.Granting.{isNowhere, placeIn, grantedFrom, granting, grantingAt}
+use Rattle.frame_release.specs.Releasing.{releasing}
 use Rattle.frame.specs.Outcome.{Call, Add, Alloc, AllocAligned, AllocAt, Dealloc, DeallocAligned, Summary, alignedTo, decide}
 use Rattle.frame_laws.specs.Demand3.{Requests, alloc, alloc-aligned, Grants, any, alloc-at, Releases, dealloc, dealloc-aligned}
 

@@ -6,6 +6,7 @@ use Prim.Native.Nat.{ℕ, _-_, _≤_, _<_}
 use native.Mathlib.Omega.{arith}
 use lib.ListN.{length, getD}
 use Rattle.answers.specs.Paper.{numberOf}
+use Rattle.answers.specs.Judging.{refused, done}
 use Rattle.rules.specs.Largest.{Joined}
 use Rattle.rules.specs.Rules.{Block, Sound}
 use Rattle.rules.specs.Managed.{Free, Touches, Kept}
@@ -13,7 +14,7 @@ use Rattle.table.specs.Layout.{State, orderOf, countOf, blocksOf, stateOf, word
 use Rattle.table.specs.Sound.{soundb}
 use Rattle.table.proofs.Facts.{sound-fact}
 use Rattle.table.proofs.State.{state, sound-blocks, length-blocks, state-back, table-sound}
-use Rattle.frame_core.specs.Deciding.{Decision, refused, done}
+use Rattle.frame_core.specs.Deciding.{Decision}
 use Rattle.frame_core.specs.Carried.{Outcome, carried}
 use Rattle.frame.specs.Outcome.{Call, Add, zeros, decide, outcome}
 use Rattle.frame_laws.specs.Demand3 as say

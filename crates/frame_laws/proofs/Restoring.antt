@@ -7,6 +7,7 @@ use Prim.Native.Nat.{ℕ, suc, _-_, _≤_, _<_}
 use native.Mathlib.Omega.{arith}
 use lib.ListN.{length, getD}
 use Rattle.answers.specs.Paper.{numberOf}
+use Rattle.answers.specs.Judging.{done}
 use Rattle.blocks.specs.Blocks.{rounded, roundedAligned}
 use Rattle.rules.specs.Rules.{Block, blk, granted, some, isGranted, released}
 use Rattle.rules.specs.Managed.{_∈_, Kept, no-more, and-then}
@@ -15,8 +16,9 @@ use Rattle.rules.proofs.Freed.{released-leaves}
 use Rattle.rules.proofs.Lengths.{released-length}
 use Rattle.rules.proofs.Orders.{all-accepted, any-order}
 use Rattle.table.specs.Layout.{stateOf, wordsOf}
-use Rattle.frame_core.specs.Deciding.{Decision, done, wanted, releasing}
+use Rattle.frame_core.specs.Deciding.{Decision, wanted}
 use Rattle.frame_core.specs.Carried.{Reply, Outcome, carried}
+use Rattle.frame_release.specs.Releasing.{releasing}
 use Rattle.frame.specs.Outcome.{Call, Add, Alloc, AllocAligned, AllocAt, Dealloc, DeallocAligned, Summary, zeros, decide, outcome}
 use Rattle.frame.specs.Told.{replies, last}
 use Rattle.frame_laws.specs.Demand3.{alloc, alloc-aligned, Grants, any, alloc-at, Releases, dealloc, dealloc-aligned, ReleaseAll, AllDone}

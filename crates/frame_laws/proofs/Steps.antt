@@ -9,6 +9,7 @@ use lib.Dec.{eqb, ltb}
 use lib.ListN.{length}
 use borrow.Author.Tests.{ne-eqb, ltb-true, ltb-false}
 use Rattle.answers.specs.Paper.{numberOf}
+use Rattle.answers.specs.Judging.{refused, done}
 use Rattle.rules.specs.Largest.{Joined}
 use Rattle.rules.specs.Rules.{Block, blk, Sound, none, isGranted, without}
 use Rattle.rules.specs.Managed.{Free, Granted, Is, Managed, Within, Touches, Leaves}
@@ -16,7 +17,7 @@ use Rattle.rules.proofs.Members.{is-block, same-block, in-without, without-has}
 use Rattle.rules.proofs.Putting.{knows-granted}
 use Rattle.table.specs.Layout.{State, stateOf, wordsOf}
 use Rattle.table.proofs.State.{state}
-use Rattle.frame_core.specs.Deciding.{Decision, refused, done}
+use Rattle.frame_core.specs.Deciding.{Decision}
 use Rattle.frame_core.specs.Carried.{Outcome, carried}
 use Rattle.frame.specs.Outcome.{Call, Add, zeros, decide, outcome, making}
 use Rattle.frame_laws.specs.History.{Range, range, History, granted, released, accepted, noted, World, step, after, fresh, Touch, TouchesNone, alone, nor, NoTouch, none, and, Added}

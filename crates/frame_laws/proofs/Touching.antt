@@ -12,7 +12,8 @@ use Rattle.rules.specs.Aligned.{Aligned}
 use Rattle.rules.specs.Rules.{Block, blk, cutFrom, cut, added, towards, serving, halved}
 use Rattle.table.specs.Layout.{blocksOf}
 use Rattle.table.specs.Sound.{headb, recordb, soundb}
-use Rattle.frame_core.specs.Deciding.{adding, granting}
+use Rattle.frame_add.specs.Adding.{adding}
+use Rattle.frame_grant.specs.Granting.{granting}
 use Rattle.frame.specs.Outcome.{Call, Add, Alloc, decide, outcome, making}
 use Rattle.frame_laws.specs.History.{range, History, World, Reached, after, fresh, Touch, TouchesNone, alone, nor, NoTouch, none, and, Added, FreeFrame}
 use Rattle.frame_laws.specs.Demand3.{Near}

@@ -8,6 +8,7 @@ use native.Mathlib.Omega.{arith}
 use lib.Dec.{ltb, leb, eqb}
 use lib.ListN.{length}
 use borrow.Author.Tests.{lt-leb, eq-eqb}
+use Rattle.answers.specs.Judging.{refuse, judge}
 use Rattle.blocks.specs.Blocks.{rounded}
 use Rattle.rules.specs.declared.Found.{Found}
 use Rattle.rules.specs.declared.Found.the-variants.{At, Nowhere}
@@ -17,8 +18,9 @@ use Rattle.rules.specs.Rules.{Block, start, serving, containing, blockAt, halve
 use Rattle.rules.specs.Managed.{Spare, Lacks}
 use Rattle.rules.proofs.Best.{somewhere}
 use Rattle.rules.proofs.Refused.{serving-refused, containing-refused}
-use Rattle.frame_core.specs.Deciding.{Decision, refuse, judge, isNowhere, noRoom, wanted, granting, grantingAt}
+use Rattle.frame_core.specs.Deciding.{Decision, noRoom, wanted}
 use Rattle.frame_core.specs.Carried.{Outcome, carried}
+use Rattle.frame_grant.specs.Granting.{isNowhere, granting, grantingAt}
 use Rattle.frame.specs.Outcome.{Call, AllocAt, zeros, decide, outcome}
 use Rattle.frame_laws.specs.History.{FreeFrame}
 use Rattle.frame_laws.specs.Demand3.{Requests, alloc, alloc-aligned}

@@ -1,0 +1,4 @@
+pub mod Compared
+pub mod Spans
+pub mod Releases
+pub mod Giving
