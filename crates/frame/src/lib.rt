@@ -39,7 +39,7 @@ pub fn new(t: &mut [u64], order: u64) -> Answer
 pub fn add_frame(t: &mut [u64], start: u64, end: u64) -> Answer
     ensures { λ r. ⌜ Told (Add start end) (now (t .entry)) r (now (t .exit)) ⌝ }
 {
-    if !table::sound(t) {
+    if !table_scan::sound(t) {
         return Answer::Refused(Refusal::BadState);
     }
     frame_add::add_range(t, start, end)
@@ -56,7 +56,7 @@ pub fn insert(t: &mut [u64], start: u64, end: u64) -> Answer
 pub fn alloc(t: &mut [u64], count: u64) -> Answer
     ensures { λ r. ⌜ Told (Alloc count) (now (t .entry)) r (now (t .exit)) ⌝ }
 {
-    if !table::sound(t) {
+    if !table_scan::sound(t) {
         return Answer::Refused(Refusal::BadState);
     }
     frame_grant::grant_block(t, blocks::round(count))
@@ -66,7 +66,7 @@ pub fn alloc(t: &mut [u64], count: u64) -> Answer
 pub fn alloc_at(t: &mut [u64], start: u64, count: u64) -> Answer
     ensures { λ r. ⌜ Told (AllocAt start count) (now (t .entry)) r (now (t .exit)) ⌝ }
 {
-    if !table::sound(t) {
+    if !table_scan::sound(t) {
         return Answer::Refused(Refusal::BadState);
     }
     frame_grant::grant_run(t, start, blocks::round(count))
@@ -76,7 +76,7 @@ pub fn alloc_at(t: &mut [u64], start: u64, count: u64) -> Answer
 pub fn dealloc(t: &mut [u64], start: u64, count: u64) -> Answer
     ensures { λ r. ⌜ Told (Dealloc start count) (now (t .entry)) r (now (t .exit)) ⌝ }
 {
-    if !table::sound(t) {
+    if !table_scan::sound(t) {
         return Answer::Refused(Refusal::BadState);
     }
     frame_release::release_block(t, start, blocks::round(count))
@@ -86,7 +86,7 @@ pub fn dealloc(t: &mut [u64], start: u64, count: u64) -> Answer
 pub fn alloc_aligned(t: &mut [u64], size: u64, align: u64) -> Answer
     ensures { λ r. ⌜ Told (AllocAligned size align) (now (t .entry)) r (now (t .exit)) ⌝ }
 {
-    if !table::sound(t) {
+    if !table_scan::sound(t) {
         return Answer::Refused(Refusal::BadState);
     }
     if !blocks::is_power_of_two(align) {
@@ -99,7 +99,7 @@ pub fn alloc_aligned(t: &mut [u64], size: u64, align: u64) -> Answer
 pub fn dealloc_aligned(t: &mut [u64], start: u64, size: u64, align: u64) -> Answer
     ensures { λ r. ⌜ Told (DeallocAligned start size align) (now (t .entry)) r (now (t .exit)) ⌝ }
 {
-    if !table::sound(t) {
+    if !table_scan::sound(t) {
         return Answer::Refused(Refusal::BadState);
     }
     if !blocks::is_power_of_two(align) {
@@ -112,7 +112,7 @@ pub fn dealloc_aligned(t: &mut [u64], start: u64, size: u64, align: u64) -> Answ
 pub fn summary(t: &[u64]) -> Report
     ensures { λ r. ⌜ Summed (now (t .entry)) r ⌝ }
 {
-    if !table::sound(t) {
+    if !table_scan::sound(t) {
         return Report::Refused(Refusal::BadState);
     }
     Report::Of(frame_core::count_frames(t))

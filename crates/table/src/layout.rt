@@ -1,7 +1,7 @@
 // The fields of a word of a frame table, as specs/Layout.antt has them. Each reader has an answer for every word.
 ghost use mathlib.Core.Path.{_≡_};
-ghost use Prim.Native.Nat.{_%_, _^_};
-ghost use Rattle.table.specs.Layout.{orderOf, countOf, restOf, markOf, classOf, gapOf, startOf, endOf};
+ghost use Prim.Native.Nat.{_^_};
+ghost use Rattle.table.specs.Layout.{orderOf, countOf, markOf, classOf, startOf, endOf};
 
 pub fn order_of(w: u64) -> u64
     ensures { λ r. ⌜ r ≡ orderOf w ⌝ }
@@ -15,12 +15,6 @@ pub fn count_of(w: u64) -> usize
     ((w >> 42) % 0x1_0000) as usize
 }
 
-pub fn rest_of(w: u64) -> u64
-    ensures { λ r. ⌜ r ≡ restOf w ⌝ }
-{
-    w % 0x400_0000_0000
-}
-
 pub fn mark_of(w: u64) -> u64
     ensures { λ r. ⌜ r ≡ markOf w ⌝ }
 {
@@ -31,12 +25,6 @@ pub fn class_of(w: u64) -> u64
     ensures { λ r. ⌜ r ≡ classOf w ⌝ }
 {
     (w >> 57) % 64
-}
-
-pub fn gap_of(w: u64) -> u64
-    ensures { λ r. ⌜ r ≡ gapOf w ⌝ }
-{
-    (w >> 32) % 0x200_0000
 }
 
 pub fn start_of(w: u64) -> u64
@@ -56,11 +44,4 @@ pub fn end_of(w: u64) -> u64
     ensures { λ r. ⌜ r ≡ endOf w ⌝ }
 {
     start_of(w) + size_of(w)
-}
-
-// What a record's start is above a multiple of its size. By a mask, since a division by a variable is slow.
-pub fn over_of(w: u64) -> u64
-    ensures { λ r. ⌜ r ≡ startOf w % 2 ^ classOf w ⌝ }
-{
-    start_of(w) & (size_of(w) - 1)
 }

@@ -1,0 +1,2 @@
+pub mod Ors
+pub mod Rows
