@@ -23,7 +23,7 @@ pub record Addable (ws : List ℕ) (i s e : ℕ) : Type 0 where
   pub gap : GapAt s i (blocksOf ws)
   pub clear : Above e (drop i (blocksOf ws))
 
--- `adding` of Deciding.antt past its tests of the range and of overlap
+-- `adding` of Adding.antt past its tests of the range and of overlap
 abbrev pub placing : ℕ → ℕ → ℕ → ℕ → List Block → Decision
 placing s e order capacity bs = judge (noRoom capacity (added (order - 1) s e bs) ∷ []) (done (0 ∷ []) (added (order - 1) s e bs))
 

@@ -1,4 +1,4 @@
--- Internal to the scan of src/scan.rt: what the contracts of its private functions cite. A table's definition is in Sound.antt.
+-- Internal to the scan of src/scan.rt: what the contracts of its private functions cite. When a table is sound stands in specs/Sound.antt of `table`.
 use mathlib.Core.Bool.{Bool, _&&_, cond}
 use mathlib.Core.List.{List, [], _∷_}
 use mathlib.Core.Path.{_≡_}
