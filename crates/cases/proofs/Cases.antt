@@ -21,7 +21,9 @@ use Rattle.heap_state.specs.Lists as lists
 use Rattle.ledger.specs.Ledger as ledgers
 use Rattle.heap_state.specs.Sound as blocks
 use Rattle.heap_state.specs.State as state
-use Rattle.heap_core.specs.Deciding as deciding
+use Rattle.heap_add.specs.Adding as add
+use Rattle.heap_grant.specs.Granting as grant
+use Rattle.heap_release.specs.Releasing as release
 use Rattle.heap.specs.Outcome as heap
 use Rattle.cases.specs.Cases.{Step, HeapStep, Run, frames, heaps, Case, replied, heard, heardHeap, Holds, Every, CaseHolds, caseTable}
 
@@ -93,5 +95,5 @@ all-hold (x ∷ xs) c = (runs-hold (x .runs) (cc), all-hold xs (cc))
 
 -- each call is computed over all words: the test of the table, what it says, what the call decides, and the words that are left
 pub cases-hold : Every CaseHolds caseTable
-unfolding trailingZeros sizeOf sizeClass firstHolding rounded largestPower prevPowerOfTwo lowestBit buddyOf lowestOrTop pieceSize cutFrom cut added towards serving containing joined released halved headb recordb soundb adding granting grantingAt releasing decide outcome roundedAligned isPowerOfTwo links.nodes links.position lists.push lists.pop lists.remove lists.pushAll lists.split lists.splitDown lists.joinUp lists.release blocks.rangesb blocks.reaches ledgers.recordb blocks.countersb blocks.soundb deciding.adding deciding.granting deciding.releasing heap.decide heap.outcome
+unfolding trailingZeros sizeOf sizeClass firstHolding rounded largestPower prevPowerOfTwo lowestBit buddyOf lowestOrTop pieceSize cutFrom cut added towards serving containing joined released halved headb recordb soundb adding granting grantingAt releasing decide outcome roundedAligned isPowerOfTwo links.nodes links.position lists.push lists.pop lists.remove lists.pushAll lists.split lists.splitDown lists.joinUp lists.release blocks.rangesb blocks.reaches ledgers.recordb blocks.countersb blocks.soundb add.adding grant.granting release.releasing heap.decide heap.outcome
 cases-hold = all-hold caseTable refl

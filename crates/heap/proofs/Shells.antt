@@ -13,8 +13,9 @@ use Rattle.heap_state.specs.declared.Reply.{Reply}
 use Rattle.heap_state.specs.Sound.{soundb}
 use Rattle.heap_state.specs.State.{state, Says}
 use Rattle.heap_state.proofs.Facts.{sound-fact}
-use Rattle.heap_core.specs.Deciding.{refused, done, carried, adding}
-use Rattle.heap_core.proofs.Adding.{start-outside, end-outside}
+use Rattle.heap_core.specs.Deciding.{refused, done, carried}
+use Rattle.heap_add.specs.Adding.{adding}
+use Rattle.heap_add.proofs.Adding.{start-outside, end-outside}
 use Rattle.heap.specs.Outcome.{Call, Init, decide, outcome}
 
 module _ (h : Heap) (arena ledger : List ℕ) where

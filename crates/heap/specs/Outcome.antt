@@ -3,7 +3,10 @@ use mathlib.Core.Bool.{true, false}
 use Prim.Native.Nat.{ℕ, _+_}
 use Rattle.answers.specs.declared.Refusal.the-variants.{BadState}
 use Rattle.heap_state.specs.State.{State, isSound, Outcome}
-use Rattle.heap_core.specs.Deciding.{Decision, refused, done, carried, adding, granting, releasing, zeroing}
+use Rattle.heap_core.specs.Deciding.{Decision, refused, done, carried}
+use Rattle.heap_add.specs.Adding.{adding}
+use Rattle.heap_grant.specs.Granting.{granting}
+use Rattle.heap_release.specs.Releasing.{releasing, zeroing}
 
 -- the calls on an existing heap
 pub data Call : Type 0 where

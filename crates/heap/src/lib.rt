@@ -1,6 +1,6 @@
 // The public calls on a heap over an arena, named as in the Rust: each tests the heap first and refuses with 3, then does the work by the
-// parts in `heap_core`. The record goes in and comes out by value. None asks anything of its caller; specs/Outcome.antt says what each
-// answers and leaves. A heap is made by `Heap::new` or `Heap::empty` of `heap_state`.
+// parts in `heap_add`, `heap_grant` and `heap_release`. The record goes in and comes out by value. None asks anything of its caller;
+// specs/Outcome.antt says what each answers and leaves. A heap is made by `Heap::new` or `Heap::empty` of `heap_state`.
 ghost use Rattle.heap_state.specs.State.{state};
 ghost use Rattle.heap.specs.Outcome.{Init, AddToHeap, Alloc, Dealloc, ZeroFill, StatsAllocUser, StatsAllocActual, StatsTotalBytes};
 ghost use Rattle.heap.specs.Told.{Told, Read};
@@ -28,7 +28,7 @@ pub fn init(h: Heap, arena: &mut [u64], ledger: &[u64], start: u64, size: u64) -
             heap: h,
         };
     }
-    heap_core::add_range(h, arena, ledger, start, start + size)
+    heap_add::add_range(h, arena, ledger, start, start + size)
 }
 
 // Adds the bytes [start, end).
@@ -41,7 +41,7 @@ pub fn add_to_heap(h: Heap, arena: &mut [u64], ledger: &[u64], start: u64, end: 
             heap: h,
         };
     }
-    heap_core::add_range(h, arena, ledger, start, end)
+    heap_add::add_range(h, arena, ledger, start, end)
 }
 
 // Grants a block for `size` bytes at a multiple of `align`, and answers its address.
@@ -54,7 +54,7 @@ pub fn alloc(h: Heap, arena: &mut [u64], ledger: &mut [u64], size: u64, align: u
             heap: h,
         };
     }
-    heap_core::grant_bytes(h, arena, ledger, size, align)
+    heap_grant::grant_bytes(h, arena, ledger, size, align)
 }
 
 // Releases the block that was granted at the address for this size and alignment, and answers how many nodes were compared with its buddies.
@@ -74,7 +74,7 @@ pub fn dealloc(
             heap: h,
         };
     }
-    heap_core::release_bytes(h, arena, ledger, address, size, align)
+    heap_release::release_bytes(h, arena, ledger, address, size, align)
 }
 
 // Clears the words of the bytes that were asked for, of the block that was granted at the address for this size and alignment.
@@ -94,7 +94,7 @@ pub fn zero_fill(
             heap: h,
         };
     }
-    heap_core::zero_bytes(h, arena, ledger, address, size, align)
+    heap_release::zero_bytes(h, arena, ledger, address, size, align)
 }
 
 // The bytes that were asked for, of all that is granted.

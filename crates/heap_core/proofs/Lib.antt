@@ -1,6 +1,3 @@
 pub mod Judging
-pub mod Overlaps
-pub mod Adding
 pub mod Requests
-pub mod Granting
-pub mod Releasing
+pub mod Kept

@@ -13,7 +13,8 @@ use Rattle.ledger.specs.Ledger.{grant, enter}
 use Rattle.heap_state.specs.Lists.{Memory, head, splitDown}
 use Rattle.heap_state.specs.Sound.{blk, blockOf}
 use Rattle.heap_state.specs.State.{State}
-use Rattle.heap_core.specs.Deciding.{memory, granted, classFor, serving, withGrants, grantedFrom, granting}
+use Rattle.heap_core.specs.Deciding.{memory, granted, classFor, withGrants}
+use Rattle.heap_grant.specs.Granting.{serving, grantedFrom, granting}
 use Rattle.heap.specs.Outcome.{Alloc}
 use Rattle.heap_laws.specs.ListRules.{lists, first, grantL}
 use Rattle.heap_laws.specs.Claims.{Healthy, Follows, servedBy, listsAfter, valueAfter}

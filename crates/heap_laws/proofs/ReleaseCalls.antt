@@ -14,7 +14,8 @@ use Rattle.ledger.specs.Ledger.{grant, strike, some, same}
 use Rattle.heap_state.specs.Lists.{Memory, release}
 use Rattle.heap_state.specs.Sound.{Block, blk, blockOf}
 use Rattle.heap_state.specs.State.{State}
-use Rattle.heap_core.specs.Deciding.{memory, top, granted, classFor, withGrants, releasing, zeroing, notGranted}
+use Rattle.heap_core.specs.Deciding.{memory, top, granted, classFor, withGrants}
+use Rattle.heap_release.specs.Releasing.{releasing, zeroing, notGranted}
 use Rattle.heap.specs.Outcome.{Dealloc, ZeroFill}
 use Rattle.heap_laws.specs.ListRules.{lists}
 use Rattle.heap_laws.specs.Claims.{Healthy, Follows, Word, afterRelease, listsAfter, valueAfter}

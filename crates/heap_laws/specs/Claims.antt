@@ -6,7 +6,8 @@ use Prim.Native.Nat.{ℕ, _+_, _-_, _*_, _^_, _≤_}
 use lib.ListN.{length, set}
 use Rattle.ledger.specs.Ledger.{grant}
 use Rattle.heap_state.specs.State.{State, isSound, making}
-use Rattle.heap_core.specs.Deciding.{memory, granted, top, roundUp, roundDown, classFor}
+use Rattle.heap_core.specs.Deciding.{memory, granted, top, classFor}
+use Rattle.heap_add.specs.Adding.{roundUp, roundDown}
 use Rattle.heap.specs.Outcome.{Call, Init, AddToHeap, Alloc, Dealloc, ZeroFill, StatsAllocUser, StatsAllocActual, StatsTotalBytes, outcome}
 use Rattle.heap_laws.specs.ListRules.{lists, first, servingL, grantL, ReleasedL, releaseL, addL}
 

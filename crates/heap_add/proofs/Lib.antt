@@ -1,0 +1,2 @@
+pub mod Overlaps
+pub mod Adding
