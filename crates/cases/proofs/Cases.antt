@@ -19,7 +19,7 @@ use Rattle.blocks.specs.Blocks.{roundedAligned, isPowerOfTwo}
 use Rattle.linked_list.specs.Links as links
 use Rattle.heap_state.specs.Lists as lists
 use Rattle.ledger.specs.Ledger as ledgers
-use Rattle.heap_state.specs.Sound as blocks
+use Rattle.heap_blocks.specs.Sound as blocks
 use Rattle.heap_state.specs.State as state
 use Rattle.heap_add.specs.Adding as add
 use Rattle.heap_grant.specs.Granting as grant
@@ -49,7 +49,7 @@ unfolding making
 made order lent a b = rw (a, b)
 
 -- the same of a heap, of its ledger
-heap-made : (order : ℕ) (arena ledger : List ℕ) → blocks.orderb order ≡ true → blocks.lengthsb (length arena) (length ledger) ≡ true
+heap-made : (order : ℕ) (arena ledger : List ℕ) → state.orderb order ≡ true → state.lengthsb (length arena) (length ledger) ≡ true
     → state.making order arena ledger ≡ record { number = 0; value = 0; state = freshHeap order arena (length ledger) }
 unfolding state.making
 heap-made order arena ledger a b = ap₂ (λ (x y : Bool). state.madeIf x y order arena ledger) a b
@@ -61,7 +61,7 @@ data Computed : Type 0 where
 
 abbrev computed : Run → Computed
 computed (frames order n steps) = of-frames (badOrder order) (badSize n) (heard steps (fresh order n))
-computed (heaps order n m steps) = of-heap (blocks.orderb order) (blocks.lengthsb n m) (heardHeap steps (freshHeap order (replicate n 0) m))
+computed (heaps order n m steps) = of-heap (state.orderb order) (state.lengthsb n m) (heardHeap steps (freshHeap order (replicate n 0) m))
 
 abbrev stated : Run → Computed
 stated (frames order n steps) = of-frames false false steps
@@ -75,10 +75,10 @@ run-holds (frames order n steps) c = λ lent e.
     let m = made order lent a (ap badSize e ∙ b) in
     (ap (λ (o : Outcome). o .reply) m, ap (λ (o : Outcome). heard steps (o .words)) m ∙ ap (λ (k : ℕ). heard steps (fresh order k)) e ∙ s)
 run-holds (heaps order n m steps) c = λ ledger e.
-    let a : blocks.orderb order ≡ true = cc in
-    let b : blocks.lengthsb n m ≡ true = cc in
+    let a : state.orderb order ≡ true = cc in
+    let b : state.lengthsb n m ≡ true = cc in
     let s : heardHeap steps (freshHeap order (replicate n 0) m) ≡ steps = cc in
-    let l : blocks.lengthsb (length {A = ℕ} (replicate n 0)) (length ledger) ≡ true = ap (λ (k : ℕ). blocks.lengthsb k (length ledger)) (length-replicate n 0) ∙ ap (blocks.lengthsb n) e ∙ b in
+    let l : state.lengthsb (length {A = ℕ} (replicate n 0)) (length ledger) ≡ true = ap (λ (k : ℕ). state.lengthsb k (length ledger)) (length-replicate n 0) ∙ ap (state.lengthsb n) e ∙ b in
     let h = heap-made order (replicate n 0) ledger a l in (
       ap (λ (o : state.Outcome). o .number) h,
       ap (λ (o : state.Outcome). heardHeap steps (o .state)) h ∙ ap (λ (k : ℕ). heardHeap steps (freshHeap order (replicate n 0) k)) e ∙ s,

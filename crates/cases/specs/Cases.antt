@@ -10,7 +10,7 @@ use Rattle.frame_core.specs.Carried.{Reply}
 use Rattle.frame.specs.Outcome.{Call, Add, Alloc, AllocAt, Dealloc, outcome, making}
 use Rattle.heap.specs.Outcome as heap
 use Rattle.heap_state.specs.State as state
-use Rattle.heap_state.specs.Sound as blocks
+use Rattle.heap_blocks.specs.Sound as blocks
 
 -- ---- what the paper says
 

@@ -10,9 +10,9 @@ use Rattle.answers.specs.declared.Answer.the-variants.{Done, Refused}
 use Rattle.answers.specs.declared.Refusal.the-variants.{BadState, BadRange}
 use Rattle.heap_state.specs.declared.Heap.{Heap}
 use Rattle.heap_state.specs.declared.Reply.{Reply}
-use Rattle.heap_state.specs.Sound.{soundb}
+use Rattle.heap_blocks.specs.Sound.{soundb}
 use Rattle.heap_state.specs.State.{state, Says}
-use Rattle.heap_state.proofs.Facts.{sound-fact}
+use Rattle.heap_blocks.proofs.Facts.{sound-fact}
 use Rattle.heap_core.specs.Deciding.{refused, done, carried}
 use Rattle.heap_add.specs.Adding.{adding}
 use Rattle.heap_add.proofs.Adding.{start-outside, end-outside}

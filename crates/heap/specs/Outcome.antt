@@ -2,7 +2,8 @@
 use mathlib.Core.Bool.{true, false}
 use Prim.Native.Nat.{ℕ, _+_}
 use Rattle.answers.specs.declared.Refusal.the-variants.{BadState}
-use Rattle.heap_state.specs.State.{State, isSound, Outcome}
+use Rattle.heap_state.specs.State.{State, Outcome}
+use Rattle.heap_blocks.specs.Sound.{isSound}
 use Rattle.heap_core.specs.Deciding.{Decision, refused, done, carried}
 use Rattle.heap_add.specs.Adding.{adding}
 use Rattle.heap_grant.specs.Granting.{granting}

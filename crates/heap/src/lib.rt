@@ -15,7 +15,7 @@ const LARGEST: u64 = 0xffff_ffff_ffff_ffff;
 pub fn init(h: Heap, arena: &mut [u64], ledger: &[u64], start: u64, size: u64) -> Reply
     ensures { λ r. ⌜ Told (Init start size) (state h (now (arena .entry)) (now (ledger .entry))) r (now (arena .exit)) (now (ledger .entry)) ⌝ }
 {
-    if !heap_state::sound(h, arena, ledger) {
+    if !heap_sound::sound(h, arena, ledger) {
         return Reply {
             answer: Answer::Refused(Refusal::BadState),
             heap: h,
@@ -35,7 +35,7 @@ pub fn init(h: Heap, arena: &mut [u64], ledger: &[u64], start: u64, size: u64) -
 pub fn add_to_heap(h: Heap, arena: &mut [u64], ledger: &[u64], start: u64, end: u64) -> Reply
     ensures { λ r. ⌜ Told (AddToHeap start end) (state h (now (arena .entry)) (now (ledger .entry))) r (now (arena .exit)) (now (ledger .entry)) ⌝ }
 {
-    if !heap_state::sound(h, arena, ledger) {
+    if !heap_sound::sound(h, arena, ledger) {
         return Reply {
             answer: Answer::Refused(Refusal::BadState),
             heap: h,
@@ -48,7 +48,7 @@ pub fn add_to_heap(h: Heap, arena: &mut [u64], ledger: &[u64], start: u64, end: 
 pub fn alloc(h: Heap, arena: &mut [u64], ledger: &mut [u64], size: u64, align: u64) -> Reply
     ensures { λ r. ⌜ Told (Alloc size align) (state h (now (arena .entry)) (now (ledger .entry))) r (now (arena .exit)) (now (ledger .exit)) ⌝ }
 {
-    if !heap_state::sound(h, arena, ledger) {
+    if !heap_sound::sound(h, arena, ledger) {
         return Reply {
             answer: Answer::Refused(Refusal::BadState),
             heap: h,
@@ -68,7 +68,7 @@ pub fn dealloc(
 ) -> Reply
     ensures { λ r. ⌜ Told (Dealloc address size align) (state h (now (arena .entry)) (now (ledger .entry))) r (now (arena .exit)) (now (ledger .exit)) ⌝ }
 {
-    if !heap_state::sound(h, arena, ledger) {
+    if !heap_sound::sound(h, arena, ledger) {
         return Reply {
             answer: Answer::Refused(Refusal::BadState),
             heap: h,
@@ -88,7 +88,7 @@ pub fn zero_fill(
 ) -> Reply
     ensures { λ r. ⌜ Told (ZeroFill address size align) (state h (now (arena .entry)) (now (ledger .entry))) r (now (arena .exit)) (now (ledger .entry)) ⌝ }
 {
-    if !heap_state::sound(h, arena, ledger) {
+    if !heap_sound::sound(h, arena, ledger) {
         return Reply {
             answer: Answer::Refused(Refusal::BadState),
             heap: h,
@@ -101,7 +101,7 @@ pub fn zero_fill(
 pub fn stats_alloc_user(h: Heap, arena: &[u64], ledger: &[u64]) -> Answer
     ensures { λ r. ⌜ Read StatsAllocUser h (now (arena .entry)) (now (ledger .entry)) r ⌝ }
 {
-    if !heap_state::sound(h, arena, ledger) {
+    if !heap_sound::sound(h, arena, ledger) {
         return Answer::Refused(Refusal::BadState);
     }
     Answer::Done(h.user)
@@ -111,7 +111,7 @@ pub fn stats_alloc_user(h: Heap, arena: &[u64], ledger: &[u64]) -> Answer
 pub fn stats_alloc_actual(h: Heap, arena: &[u64], ledger: &[u64]) -> Answer
     ensures { λ r. ⌜ Read StatsAllocActual h (now (arena .entry)) (now (ledger .entry)) r ⌝ }
 {
-    if !heap_state::sound(h, arena, ledger) {
+    if !heap_sound::sound(h, arena, ledger) {
         return Answer::Refused(Refusal::BadState);
     }
     Answer::Done(h.allocated)
@@ -121,7 +121,7 @@ pub fn stats_alloc_actual(h: Heap, arena: &[u64], ledger: &[u64]) -> Answer
 pub fn stats_total_bytes(h: Heap, arena: &[u64], ledger: &[u64]) -> Answer
     ensures { λ r. ⌜ Read StatsTotalBytes h (now (arena .entry)) (now (ledger .entry)) r ⌝ }
 {
-    if !heap_state::sound(h, arena, ledger) {
+    if !heap_sound::sound(h, arena, ledger) {
         return Answer::Refused(Refusal::BadState);
     }
     Answer::Done(h.total)

@@ -11,7 +11,7 @@ use borrow.Author.Tests.{lt-ltb, le-ltb, eq-eqb, ne-eqb}
 use Rattle.words.proofs.Tests.{and-false}
 use Rattle.answers.specs.declared.Refusal.the-variants.{BadRange, NullStart, Overlap}
 use Rattle.heap_state.specs.Lists.{pushAll}
-use Rattle.heap_state.specs.Sound.{Block, blk, freeBlocks, grantedBlocks, allBlocks}
+use Rattle.heap_blocks.specs.Sound.{Block, blk, freeBlocks, grantedBlocks, allBlocks}
 use Rattle.heap_state.specs.State.{State}
 use Rattle.heap_core.specs.Deciding.{Decision, refused, done, refuse, memory, bytes, top}
 use Rattle.heap_add.specs.Adding.{roundUp, roundDown, meets, withLists, adding}

@@ -14,7 +14,7 @@ use Rattle.linked_list.specs.Links.{next, nodes}
 use Rattle.linked_list.proofs.Steps.{nodes-end, nodes-none, nodes-step}
 use Rattle.ledger.specs.Ledger.{classOf, addressOf, grantOf}
 use Rattle.heap_state.specs.Lists.{Memory, list}
-use Rattle.heap_state.specs.Sound.{Block, blk, blockOf, freeFrom}
+use Rattle.heap_blocks.specs.Sound.{Block, blk, blockOf, freeFrom}
 use Rattle.heap_add.specs.Adding.{meets}
 use Rattle.heap_add.specs.Parts.{meetsBlock}
 

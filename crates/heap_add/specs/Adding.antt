@@ -6,7 +6,7 @@ use Prim.Native.Nat.{ℕ, _+_, _-_, _*_, _/_, _^_}
 use lib.Dec.{eqb, ltb}
 use Rattle.answers.specs.declared.Refusal.the-variants.{BadRange, NullStart, Overlap}
 use Rattle.heap_state.specs.Lists.{Memory, pushAll}
-use Rattle.heap_state.specs.Sound.{Block, blk, allBlocks}
+use Rattle.heap_blocks.specs.Sound.{Block, blk, allBlocks}
 use Rattle.heap_state.specs.State.{State}
 use Rattle.heap_core.specs.Deciding.{Decision, done, refuse, judge, memory, bytes, top}
 

@@ -5,7 +5,7 @@ use Prim.Native.Nat.{ℕ, _+_, _-_}
 use lib.Dec.{ltb}
 use Rattle.answers.specs.declared.Refusal.the-variants.{Overlap}
 use Rattle.heap_state.specs.Lists.{pushAll}
-use Rattle.heap_state.specs.Sound.{allBlocks}
+use Rattle.heap_blocks.specs.Sound.{allBlocks}
 use Rattle.heap_state.specs.State.{State}
 use Rattle.heap_core.specs.Deciding.{Decision, done, refuse, judge, memory, top}
 use Rattle.heap_add.specs.Adding.{meets, withLists}

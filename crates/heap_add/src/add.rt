@@ -6,7 +6,7 @@ ghost use Prim.Native.Nat.{_+_, _-_, _*_, _≤_, _<_};
 ghost use lib.ListN.{length};
 ghost use Rattle.linked_list.specs.Links.{nodes};
 ghost use Rattle.ledger.specs.Ledger.{grants};
-ghost use Rattle.heap_state.specs.Sound.{blk, blockOf, freeFrom, soundb};
+ghost use Rattle.heap_blocks.specs.Sound.{blk, blockOf, freeFrom, soundb};
 ghost use Rattle.heap_state.specs.State.{state, Says};
 ghost use Rattle.heap_add.specs.Adding.{meets, adding};
 ghost use Rattle.heap_core.specs.Deciding.{carried};

@@ -12,7 +12,8 @@ use Rattle.lines.specs.Text.{decimal, lineFeed}
 use Rattle.linked_list.specs.Links.{next, nodes}
 use Rattle.heap_core.specs.Deciding.{memory}
 use Rattle.heap_state.specs.Lists.{list}
-use Rattle.heap_state.specs.State.{State, state, isSound, Outcome, Says}
+use Rattle.heap_state.specs.State.{State, state, Outcome, Says}
+use Rattle.heap_blocks.specs.Sound.{isSound}
 use Rattle.heap_state.specs.declared.Reply.{Reply}
 use Rattle.heap.specs.Told.{Told}
 use Rattle.heap_calls.specs.declared.Call.{Call}

@@ -7,8 +7,7 @@ use borrow.Author.Tests.{eq-eqb, ne-eqb, lt-ltb, le-ltb}
 use lib.Dec.{eqb, ltb}
 use lib.ListN.{length, take, drop, replicate, length-replicate, take-append-drop}
 use Rattle.answers.specs.Paper.{paper}
-use Rattle.heap_state.specs.Sound.{lengthsb, orderb}
-use Rattle.heap_state.specs.State.{State, state, Outcome, Says, madeIf, making}
+use Rattle.heap_state.specs.State.{lengthsb, orderb, State, state, Outcome, Says, madeIf, making}
 use Rattle.heap_state.specs.declared.Heap.{Heap}
 use Rattle.heap_state.specs.declared.Reply.{Reply}
 use Rattle.heap_calls.specs.declared.Command.the-variants.{Make}

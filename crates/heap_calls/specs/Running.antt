@@ -6,7 +6,8 @@ use Prim.Native.Nat.{ℕ}
 use lib.ListN.{take}
 use Rattle.heap_core.specs.Deciding.{memory}
 use Rattle.heap_state.specs.Lists.{list}
-use Rattle.heap_state.specs.State.{State, isSound}
+use Rattle.heap_state.specs.State.{State}
+use Rattle.heap_blocks.specs.Sound.{isSound}
 use Rattle.heap_state.specs.declared.Reply.{Reply}
 use Rattle.lines.specs.Gather.{lastLine}
 use Rattle.lines.specs.Put.{Shown}

@@ -8,7 +8,8 @@ use Rattle.linked_list.specs.Links.{nodes}
 use Rattle.lines.specs.Bytes.{bytes}
 use Rattle.lines.specs.Text.{decimal, lineFeed, badLine}
 use Rattle.heap_state.specs.Lists.{list}
-use Rattle.heap_state.specs.State.{State, Outcome, isSound}
+use Rattle.heap_state.specs.State.{State, Outcome}
+use Rattle.heap_blocks.specs.Sound.{isSound}
 use Rattle.heap_core.specs.Deciding.{memory}
 use Rattle.heap.specs.Outcome.{outcome, StatsAllocUser, StatsAllocActual, StatsTotalBytes}
 use Rattle.heap_calls.specs.declared.Command.{Command}

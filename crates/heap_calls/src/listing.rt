@@ -78,7 +78,7 @@ fn put_free(heap: Heap, arena: &[u64], ledger: &[u64], out: &mut [u8], at: usize
     requires { ⌜ 160 ≤ length (now out) ⌝ }
     ensures { λ r. ⌜ r ≤ length (now (out .exit)) ⌝ }
 {
-    if !heap_state::sound(heap, arena, ledger) {
+    if !heap_sound::sound(heap, arena, ledger) {
         let free = room(out, at);
         return put(b"not sound\n", out, free);
     }

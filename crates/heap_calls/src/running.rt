@@ -132,7 +132,7 @@ fn count_nodes(head: u64, arena: &[u64]) -> usize
 fn nodes_of(class: u64, heap: Heap, arena: &[u64], ledger: &[u64]) -> Printed
     ensures { λ r. ⌜ Lists class (state heap (now (arena .entry)) (now (ledger .entry))) r ⌝ }
 {
-    if !heap_state::sound(heap, arena, ledger) {
+    if !heap_sound::sound(heap, arena, ledger) {
         return Printed::Reply(Answer::Refused(Refusal::BadState));
     }
     let head = head_of(heap, class);

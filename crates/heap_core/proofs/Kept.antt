@@ -4,7 +4,7 @@ use Prim.Native.Nat.{ℕ}
 use Rattle.ledger.specs.Kept.{Kept}
 use Rattle.heap_state.specs.declared.Heap.{Heap}
 use Rattle.heap_state.specs.State.{State}
-use Rattle.heap_state.proofs.Facts.{Sound}
+use Rattle.heap_blocks.proofs.Facts.{Sound}
 
 pub kept : (st : State) → Sound (st .heap) (st .arena) (st .ledger) → Kept (st .heap .order) (st .heap .count) (st .ledger)
 kept st s = record { room = s .ranges .room; short = s .ranges .ledger-high; fine = s .records; ascending = s .ascending; zeros = s .zeros }

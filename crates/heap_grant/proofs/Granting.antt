@@ -18,10 +18,11 @@ use Rattle.ledger.specs.Ledger.{grant, enter, ledgerWords}
 use Rattle.ledger.proofs.Ledgers.{length-grants}
 use Rattle.ledger.proofs.Keeping.{length-enter}
 use Rattle.heap_state.specs.Lists.{Memory, head, firstClass, splitDown}
-use Rattle.heap_state.specs.State.{State, state, isSound, Says}
-use Rattle.heap_state.proofs.Facts.{Sound, sound-fact}
-use Rattle.heap_state.proofs.Heads.{head-placed}
-use Rattle.heap_state.proofs.Counters.{counters-small}
+use Rattle.heap_state.specs.State.{State, state, Says}
+use Rattle.heap_blocks.specs.Sound.{isSound}
+use Rattle.heap_blocks.proofs.Facts.{Sound, sound-fact}
+use Rattle.heap_blocks.proofs.Heads.{head-placed}
+use Rattle.heap_blocks.proofs.Counters.{counters-small}
 use Rattle.heap_core.specs.Deciding.{Decision, refused, refuse, judge, memory, classFor, granted, withGrants, carried}
 use Rattle.heap_grant.specs.Granting.{serving, granting}
 use Rattle.heap_moves.specs.Moves.{mem, Servable, TakenOut}

@@ -5,7 +5,8 @@ use Prim.Native.Nat.{ℕ, _+_, _-_, _^_, _≤_, _<_}
 use lib.ListN.{length}
 use Rattle.ledger.specs.Ledger.{grant, enter}
 use Rattle.heap_state.specs.Lists.{head, pop, splitDown}
-use Rattle.heap_state.specs.State.{State, isSound}
+use Rattle.heap_state.specs.State.{State}
+use Rattle.heap_blocks.specs.Sound.{isSound}
 use Rattle.heap_core.specs.Deciding.{Decision, done, memory, granted, withGrants}
 
 pub record Grantable (st : State) (from class size : ℕ) : Type 0 where

@@ -4,7 +4,7 @@ ghost use mathlib.Core.Bool.{true};
 ghost use mathlib.Core.List.{[]};
 ghost use Prim.Native.Nat.{_-_, _≤_};
 ghost use Rattle.heap_state.specs.Lists.{firstClass};
-ghost use Rattle.heap_state.specs.Sound.{soundb};
+ghost use Rattle.heap_blocks.specs.Sound.{soundb};
 ghost use Rattle.heap_state.specs.State.{state, Says};
 ghost use Rattle.heap_grant.specs.Granting.{granting};
 ghost use Rattle.heap_core.specs.Deciding.{carried};

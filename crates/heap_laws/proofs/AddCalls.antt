@@ -10,13 +10,14 @@ use lib.ListN.{length}
 use borrow.Author.Tests.{ltb-false, eqb-false, lt-ltb}
 use Rattle.answers.specs.declared.Refusal.the-variants.{BadRange, NullStart, Overlap}
 use Rattle.heap_state.specs.Lists.{pushAll}
-use Rattle.heap_state.specs.Sound.{Block, allBlocks, freeFrom}
+use Rattle.heap_blocks.specs.Sound.{Block, allBlocks, freeFrom}
 use Rattle.heap_state.specs.State.{State}
 use Rattle.heap_core.specs.Deciding.{memory, bytes, top, granted}
 use Rattle.heap_add.specs.Adding.{roundUp, roundDown, meets, adding}
 use Rattle.heap_laws.specs.ListRules.{lists, addL}
 use Rattle.heap_laws.specs.Claims.{Healthy, afterAdding}
-use Rattle.heap_laws.proofs.Adding.{Clear, clear, not-either, add-managed}
+use Rattle.heap_laws.proofs.Adding.{Clear, clear, add-managed}
+use Rattle.words.proofs.Tests.{not-either}
 use Rattle.heap_laws.proofs.Tested.{free-is}
 use Rattle.heap_laws.proofs.Entries.{blocksOf}
 use Rattle.heap_laws.proofs.Sounds.{ManagedBy, lists-is}

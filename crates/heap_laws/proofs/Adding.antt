@@ -1,19 +1,20 @@
 -- Adding a range that no block meets: its pieces are pushed, as the rules of the lists say. Assumes nothing.
 use mathlib.Core.Path.{_≡_, refl, ap, _∙_}
-use mathlib.Core.Bool.{Bool, true, false, _&&_, _||_}
+use mathlib.Core.Bool.{Bool, true, false, _&&_}
 use mathlib.Core.List.{List, [], _∷_, _++_}
 use Prim.Native.Nat.{ℕ, zero, suc, _+_, _-_, _*_, _%_, _^_, _≤_, _<_}
 use native.Mathlib.Omega.{arith}
 use lib.Pow.{pow-pos}
 use lib.Dec.{eqb, ltb}
 use borrow.Author.Tests.{ne-eqb, lt-ltb, ltb-false}
+use Rattle.words.proofs.Tests.{not-either}
 use Rattle.blocks.specs.Blocks.{pieceSize, sizeClass}
 use Rattle.blocks.specs.Laws.{Piece}
 use Rattle.blocks.proofs.Pieces.{piece}
 use Rattle.blocks.proofs.Powers.{exp-le, multiple, multiple-le}
 use Rattle.blocks.proofs.Rounding.{size-class}
 use Rattle.heap_state.specs.Lists.{Memory, push, pushAll}
-use Rattle.heap_state.specs.Sound.{Block, blk}
+use Rattle.heap_blocks.specs.Sound.{Block, blk}
 use Rattle.heap_add.specs.Adding.{meets}
 use Rattle.heap_laws.specs.ListRules.{pushL, addL}
 use Rattle.heap_laws.proofs.Shuffles.{_~_, same, keep, swap, then, back, bring}
@@ -34,10 +35,6 @@ clear-cons {s} {e} k a bs h q c = go (ltb a e) refl (ltb s (a + 2 ^ k)) refl
     go false f u g = above (ltb-false a e f) c
     go true f false g = below (ltb-false s (a + 2 ^ k) g) c
     go true f true g = absurd (let z : _≡_ {A = ℕ} 0 1 = cc in omega arith)
-
-pub not-either : (a b : Bool) → a || b ≡ false → (a ≡ false) × (b ≡ false)
-not-either true b e = absurd (let z : _≡_ {A = ℕ} 0 1 = cc in omega arith)
-not-either false b e = (refl, e)
 
 pub clear : (s e : ℕ) (bs : List Block) → s < e → meets s e bs ≡ false → Clear s e bs
 clear s e [] h q = nowhere

@@ -12,7 +12,7 @@ use Rattle.ledger.specs.Ledger.{Grant, grant, enter, strike, some}
 use Rattle.ledger.specs.Kept.{standsAt}
 use Rattle.ledger.proofs.Grants.{Fine, Records, none, next}
 use Rattle.ledger.proofs.Searching.{same-fact}
-use Rattle.heap_state.specs.Sound.{Block, blk, blockOf, requests}
+use Rattle.heap_blocks.specs.Sound.{Block, blk, blockOf, requests}
 use Rattle.heap_laws.proofs.Shuffles.{_~_, same, keep, swap, then}
 use Rattle.heap_laws.proofs.Placing as placing
 use Rattle.heap_laws.proofs.Placing.{Apart, under, over, Beside, Placed}

@@ -7,7 +7,7 @@ use lib.Pow.{pow-mono}
 use lib.ListN.{length, set}
 use Rattle.blocks.proofs.Powers.{multiple-le}
 use Rattle.linked_list.specs.Chains.{Away, Within}
-use Rattle.heap_state.specs.Sound.{Block, blk}
+use Rattle.heap_blocks.specs.Sound.{Block, blk}
 use Rattle.heap_laws.specs.ListRules.{ofClass}
 use Rattle.heap_laws.specs.Claims.{Word}
 use Rattle.heap_laws.proofs.Shuffles.{_~_, same, keep, swap, then, bring, before}

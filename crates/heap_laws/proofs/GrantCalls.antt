@@ -11,7 +11,7 @@ use Rattle.answers.specs.declared.Refusal.the-variants.{BadAlign, NoBlock, NoRo
 use Rattle.blocks.specs.Blocks.{isPowerOfTwo}
 use Rattle.ledger.specs.Ledger.{grant, enter}
 use Rattle.heap_state.specs.Lists.{Memory, head, splitDown}
-use Rattle.heap_state.specs.Sound.{blk, blockOf}
+use Rattle.heap_blocks.specs.Sound.{blk, blockOf}
 use Rattle.heap_state.specs.State.{State}
 use Rattle.heap_core.specs.Deciding.{memory, granted, classFor, withGrants}
 use Rattle.heap_grant.specs.Granting.{serving, grantedFrom, granting}
@@ -27,7 +27,7 @@ use Rattle.heap_laws.proofs.Placing.{Placed, beside-rest}
 use Rattle.heap_laws.proofs.Free.{freeOf}
 use Rattle.heap_laws.proofs.Managing.{in-hand, reordered}
 use Rattle.heap_laws.proofs.Granting.{serving-is, Serves, serves, grant-managed}
-use Rattle.heap_laws.proofs.Adding.{not-either}
+use Rattle.words.proofs.Tests.{not-either}
 use Rattle.heap_laws.proofs.Entries as entries
 use Rattle.heap_laws.proofs.Entries.{blocksOf, same-requests, beside-fresh}
 use Rattle.heap_laws.proofs.Sounds.{ManagedBy, lists-is}

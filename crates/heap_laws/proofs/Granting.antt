@@ -10,7 +10,7 @@ use lib.Seq.{getD-set-same}
 use borrow.Author.Tests.{ne-eqb}
 use Rattle.linked_list.specs.Chains.{Chain}
 use Rattle.heap_state.specs.Lists.{Memory, head, pop, split, splitDown, firstClass}
-use Rattle.heap_state.specs.Sound.{Block, blk}
+use Rattle.heap_blocks.specs.Sound.{Block, blk}
 use Rattle.heap_laws.specs.ListRules.{ofClass, first, pushL, popL, splitL, splitDownL, servingL, grantL}
 use Rattle.heap_laws.proofs.Managing.{Managed, push-managed, class-below}
 use Rattle.heap_laws.proofs.Taking.{head-is, pop-managed}

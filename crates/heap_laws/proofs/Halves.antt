@@ -9,7 +9,7 @@ use Rattle.blocks.specs.Laws.{Buddies, upper, lower}
 use Rattle.blocks.proofs.Powers.{multiple, multiple-le, quotient}
 use Rattle.blocks.proofs.Buddies.{pair}
 use Rattle.heap_state.specs.Lists.{Memory}
-use Rattle.heap_state.specs.Sound.{Block, blk}
+use Rattle.heap_blocks.specs.Sound.{Block, blk}
 use Rattle.heap_laws.proofs.Shuffles.{keep, swap, then, back, bring, same-bytes}
 use Rattle.heap_laws.proofs.Placing.{Fits, Apart, under, over, Beside, Placed, none, next, placed-shuffled}
 use Rattle.heap_laws.proofs.Free.{freeOf}

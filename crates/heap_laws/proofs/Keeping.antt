@@ -11,9 +11,9 @@ use Rattle.ledger.specs.Ledger.{Grant, grants, grantOf, wordOf, ledgerWords}
 use Rattle.ledger.proofs.Grants.{Records, records-fit}
 use Rattle.ledger.proofs.Ledgers.{grants-words, words-kept}
 use Rattle.heap_state.specs.Lists.{Memory}
-use Rattle.heap_state.specs.Sound.{Block, bytesOf, requests}
+use Rattle.heap_blocks.specs.Sound.{Block, bytesOf, requests}
 use Rattle.heap_state.specs.State.{State}
-use Rattle.heap_state.proofs.Facts.{Sound, sound-fact}
+use Rattle.heap_blocks.proofs.Facts.{Sound, sound-fact}
 use Rattle.heap_core.specs.Deciding.{Decision, refused, done, granted, withGrants}
 use Rattle.heap_add.specs.Adding.{withLists}
 use Rattle.heap_laws.specs.Claims.{Healthy, Follows}

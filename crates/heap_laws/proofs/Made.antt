@@ -8,9 +8,9 @@ use lib.ListN.{length, getD, replicate, length-replicate}
 use borrow.Author.Tests.{le-leb}
 use Rattle.words.specs.Words.{zerosb}
 use Rattle.linked_list.specs.Chains.{Chain}
-use Rattle.heap_state.specs.Sound.{lengthsb, orderb, rangesb}
-use Rattle.heap_state.specs.State.{State, state, freshHeap, madeIf, making}
-use Rattle.heap_state.proofs.Facts.{Ranges, ranges-fact}
+use Rattle.heap_state.specs.State.{lengthsb, orderb, State, state, freshHeap, madeIf, making}
+use Rattle.heap_blocks.specs.Sound.{rangesb}
+use Rattle.heap_blocks.proofs.Facts.{Ranges, ranges-fact}
 use Rattle.heap_core.specs.Deciding.{memory}
 use Rattle.heap_laws.specs.ListRules.{ofClass}
 use Rattle.heap_laws.specs.Claims.{Healthy}

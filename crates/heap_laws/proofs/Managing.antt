@@ -11,7 +11,7 @@ use Rattle.linked_list.specs.Chains.{Chain, Away}
 use Rattle.linked_list.proofs.Chains.{chain-nodes, frame, push-chain}
 use Rattle.linked_list.proofs.Counting.{chain-few}
 use Rattle.heap_state.specs.Lists.{Memory, head, list, push}
-use Rattle.heap_state.specs.Sound.{Block, blk, bytesOf}
+use Rattle.heap_blocks.specs.Sound.{Block, blk, bytesOf}
 use Rattle.heap_laws.specs.ListRules.{ofClass, pushL}
 use Rattle.heap_laws.specs.Claims.{Word}
 use Rattle.heap_laws.proofs.Shuffles.{_~_, then, back, bring, after, before, same-bytes}

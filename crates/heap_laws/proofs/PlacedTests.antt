@@ -7,14 +7,14 @@ use Prim.Native.Nat.{ℕ, zero, suc, _+_, _%_, _^_}
 use lib.Dec.{eqb, leb, ltb}
 use lib.ListN.{length}
 use borrow.Author.Tests.{eqb-true, eq-eqb, leb-true, le-leb, ltb-true, lt-ltb}
-use Rattle.words.proofs.Tests.{both, join}
+use Rattle.words.proofs.Tests.{both, join, either, or-left, or-right}
 use Rattle.linked_list.proofs.Steps.{nodes-end}
 use Rattle.heap_state.specs.Lists.{Memory, head, list}
-use Rattle.heap_state.specs.Sound.{Block, blk, placedb, apart, apartFrom, disjointb}
+use Rattle.heap_blocks.specs.Sound.{Block, blk, placedb, apart, apartFrom, disjointb}
 use Rattle.heap_laws.specs.ListRules.{listsFrom}
 use Rattle.heap_laws.proofs.Placing.{Fits, Apart, under, over, Beside, Placed, none, next}
 use Rattle.heap_laws.proofs.Free.{freeOf}
-use Rattle.heap_laws.proofs.Tested.{either, or-left, or-right, Listed}
+use Rattle.heap_laws.proofs.Tested.{Listed}
 
 -- every block is of a class that has lists
 pub data Classed (order : ℕ) : List Block → Type 0 where

@@ -12,7 +12,7 @@ use Rattle.blocks.specs.Blocks.{isPowerOfTwo}
 use Rattle.blocks.proofs.Powers.{multiple, multiple-le}
 use Rattle.ledger.specs.Ledger.{grant, strike, some, same}
 use Rattle.heap_state.specs.Lists.{Memory, release}
-use Rattle.heap_state.specs.Sound.{Block, blk, blockOf}
+use Rattle.heap_blocks.specs.Sound.{Block, blk, blockOf}
 use Rattle.heap_state.specs.State.{State}
 use Rattle.heap_core.specs.Deciding.{memory, top, granted, classFor, withGrants}
 use Rattle.heap_release.specs.Releasing.{releasing, zeroing, notGranted}

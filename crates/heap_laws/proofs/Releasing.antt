@@ -14,7 +14,7 @@ use Rattle.blocks.proofs.Buddies.{pair}
 use Rattle.linked_list.specs.Links.{compared}
 use Rattle.linked_list.specs.Chains.{without}
 use Rattle.heap_state.specs.Lists.{Memory, push, pop, remove, stands, Released, joinUp, release}
-use Rattle.heap_state.specs.Sound.{Block, blk}
+use Rattle.heap_blocks.specs.Sound.{Block, blk}
 use Rattle.heap_laws.specs.ListRules.{ofClass, pushL, popL, removeL, ReleasedL, joinUpL, releaseL}
 use Rattle.heap_laws.proofs.Placing.{Fits, Placed, next}
 use Rattle.heap_laws.proofs.Managing.{Managed, in-hand, push-managed, list-is}

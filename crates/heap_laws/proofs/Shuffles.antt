@@ -4,7 +4,7 @@ use mathlib.Core.List.{List, [], _∷_, _++_, map}
 use Prim.Native.Nat.{suc}
 use native.Mathlib.Omega.{arith}
 use lib.ListN.{length}
-use Rattle.heap_state.specs.Sound.{Block, blk, bytesOf}
+use Rattle.heap_blocks.specs.Sound.{Block, blk, bytesOf}
 
 infix 40 _~_
 pub data _~_ {A : Type 0} : List A → List A → Type 0 where

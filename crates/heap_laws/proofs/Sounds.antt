@@ -16,10 +16,10 @@ use Rattle.ledger.proofs.Grants.{Records, none, next, records-of}
 use Rattle.linked_list.specs.Chains.{Chain}
 use Rattle.linked_list.proofs.Counting.{chain-few}
 use Rattle.heap_state.specs.Lists.{Memory, head, list}
-use Rattle.heap_state.specs.Sound.{Block, bytesOf, requests, placedb, disjointb, freeFrom, countersb, reaches}
-use Rattle.heap_state.specs.State.{State, isSound}
-use Rattle.heap_state.proofs.Facts.{Ranges, Sound, sound-true}
-use Rattle.heap_state.proofs.Counters.{sums}
+use Rattle.heap_blocks.specs.Sound.{Block, bytesOf, requests, placedb, disjointb, freeFrom, countersb, reaches, isSound}
+use Rattle.heap_state.specs.State.{State}
+use Rattle.heap_blocks.proofs.Facts.{Ranges, Sound, sound-true}
+use Rattle.heap_blocks.proofs.Counters.{sums}
 use Rattle.heap_core.specs.Deciding.{memory, granted}
 use Rattle.heap_laws.specs.ListRules.{listsFrom, lists, ofClass}
 use Rattle.heap_laws.proofs.Placing.{placed-front}

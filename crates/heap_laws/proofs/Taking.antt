@@ -14,7 +14,7 @@ use Rattle.linked_list.specs.Chains.{Chain, Away, Apart, without}
 use Rattle.linked_list.proofs.Removing.{unlink-frame}
 use Rattle.linked_list.proofs.Positions.{Split, found-splits, found-removed}
 use Rattle.heap_state.specs.Lists.{Memory, head, withList, pop, remove, stands}
-use Rattle.heap_state.specs.Sound.{Block, blk}
+use Rattle.heap_blocks.specs.Sound.{Block, blk}
 use Rattle.heap_laws.specs.ListRules.{ofClass, popL, removeL}
 use Rattle.heap_laws.proofs.Shuffles.{_~_, then, back, bring, after, same-bytes}
 use Rattle.heap_laws.proofs.Placing.{Placed, next, placed-shuffled, placed-front}

@@ -1,31 +1,20 @@
 -- From the tests of a heap's heads and walks to its lists, and back. Assumes nothing.
 use mathlib.Core.Path.{_≡_, refl, ap}
 use mathlib.Core.Logic.{_⊎_, inl, inr}
-use mathlib.Core.Bool.{Bool, true, false, _&&_, _||_}
+use mathlib.Core.Bool.{true, false, _&&_, _||_}
 use mathlib.Core.List.{List, [], _∷_, _++_, map}
 use Prim.Native.Nat.{ℕ, zero, suc, _+_, _-_, _≤_, _<_}
 use native.Mathlib.Omega.{arith}
 use lib.Dec.{eqb, leb, ltb}
 use lib.ListN.{length, getD}
 use borrow.Author.Tests.{eqb-true, eq-eqb, ne-eqb, leb-true, le-leb, ltb-true, lt-ltb}
-use Rattle.words.proofs.Tests.{both, join}
+use Rattle.words.proofs.Tests.{both, join, either, or-left, or-right}
 use Rattle.linked_list.specs.Links.{next, nodes}
 use Rattle.linked_list.specs.Chains.{Chain}
 use Rattle.heap_state.specs.Lists.{Memory, list}
-use Rattle.heap_state.specs.Sound.{Block, blk, headsb, reaches, listsb, freeFrom}
+use Rattle.heap_blocks.specs.Sound.{Block, blk, headsb, reaches, listsb, freeFrom}
 use Rattle.heap_laws.specs.ListRules.{listsFrom, ofClass}
 use Rattle.heap_laws.proofs.Free.{freeOf}
-
-pub either : (a b : Bool) → a || b ≡ true → (a ≡ true) ⊎ (b ≡ true)
-either true b e = inl refl
-either false b e = inr e
-
-pub or-right : (a b : Bool) → b ≡ true → a || b ≡ true
-or-right true b e = refl
-or-right false b e = e
-
-pub or-left : (a b : Bool) → a ≡ true → a || b ≡ true
-or-left a b e = rw e
 
 -- ---- the classes that have lists
 

@@ -7,7 +7,8 @@ use native.Mathlib.Omega.{arith}
 use Rattle.answers.specs.declared.Refusal.{Refusal}
 use Rattle.answers.specs.declared.Refusal.the-variants.{BadOrder, BadSize, BadState, BadRange, NullStart, Overlap, BadAlign, Misaligned, NoBlock, NotGranted, NoRoom}
 use Rattle.answers.specs.Paper.{numberOf}
-use Rattle.heap_state.specs.State.{State, state, isSound}
+use Rattle.heap_state.specs.State.{State, state}
+use Rattle.heap_blocks.specs.Sound.{isSound}
 use Rattle.heap_core.specs.Deciding.{Decision, refused, done, carried}
 use Rattle.heap.specs.Outcome.{Call, Init, AddToHeap, Alloc, Dealloc, ZeroFill, StatsAllocUser, StatsAllocActual, StatsTotalBytes, decide, outcome}
 use Rattle.heap_laws.specs.Claims.{Healthy, Follows, valueAfter, listsAfter}

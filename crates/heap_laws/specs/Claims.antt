@@ -5,7 +5,8 @@ use mathlib.Core.List.{List, List·Memᴰ}
 use Prim.Native.Nat.{ℕ, _+_, _-_, _*_, _^_, _≤_}
 use lib.ListN.{length, set}
 use Rattle.ledger.specs.Ledger.{grant}
-use Rattle.heap_state.specs.State.{State, isSound, making}
+use Rattle.heap_state.specs.State.{State, making}
+use Rattle.heap_blocks.specs.Sound.{isSound}
 use Rattle.heap_core.specs.Deciding.{memory, granted, top, classFor}
 use Rattle.heap_add.specs.Adding.{roundUp, roundDown}
 use Rattle.heap.specs.Outcome.{Call, Init, AddToHeap, Alloc, Dealloc, ZeroFill, StatsAllocUser, StatsAllocActual, StatsTotalBytes, outcome}

@@ -21,10 +21,10 @@ use Rattle.ledger.proofs.Searching.{same-fact, search-some, search-within, late
 use Rattle.ledger.proofs.Ledgers.{kept-records, length-grants}
 use Rattle.ledger.proofs.Keeping.{length-strike}
 use Rattle.heap_state.specs.Lists.{Released, release}
-use Rattle.heap_state.specs.Sound.{blockOf, placedb, bytesOf, requests, freeBlocks, grantedBlocks}
+use Rattle.heap_blocks.specs.Sound.{blockOf, placedb, bytesOf, requests, freeBlocks, grantedBlocks}
 use Rattle.heap_state.specs.State.{State, Says}
-use Rattle.heap_state.proofs.Facts.{Sound}
-use Rattle.heap_state.proofs.Heads.{Placed, placed-fact, placed-parts}
+use Rattle.heap_blocks.proofs.Facts.{Sound}
+use Rattle.heap_blocks.proofs.Heads.{Placed, placed-fact, placed-parts}
 use Rattle.heap_core.specs.Deciding.{Decision, refused, done, refuse, judge, memory, top, classFor, granted, withGrants, carried}
 use Rattle.heap_release.specs.Releasing.{notGranted, releasing, zeroing}
 use Rattle.heap_moves.specs.Moves.{mem, released}

@@ -1,7 +1,7 @@
 // A granted block released, or cleared.
 ghost use mathlib.Core.Path.{_≡_};
 ghost use mathlib.Core.Bool.{true};
-ghost use Rattle.heap_state.specs.Sound.{soundb};
+ghost use Rattle.heap_blocks.specs.Sound.{soundb};
 ghost use Rattle.heap_state.specs.State.{state, Says};
 ghost use Rattle.heap_release.specs.Releasing.{releasing, zeroing};
 ghost use Rattle.heap_core.specs.Deciding.{carried};

@@ -1,11 +1,2 @@
-pub mod Facts
-pub mod Joined
-pub mod Heads
-pub mod Counters
+pub mod InRange
 pub mod Made
-pub mod Walks
-pub mod Classes
-pub mod Records
-pub mod Crossing
-pub mod Ends
-pub mod Together

@@ -7,8 +7,7 @@ use lib.ListN.{length, replicate}
 use Rattle.answers.specs.declared.Answer.the-variants.{Done, Refused}
 use Rattle.answers.specs.declared.Refusal.the-variants.{BadOrder, BadSize}
 use Rattle.heap_state.specs.declared.Heap.{Heap}
-use Rattle.heap_state.specs.Sound.{lengthsb, orderb}
-use Rattle.heap_state.specs.State.{state, Says, freshHeap, making}
+use Rattle.heap_state.specs.State.{lengthsb, orderb, state, Says, freshHeap, making}
 
 module _ (order : ℕ) (arena ledger : List ℕ) (h : Heap) where
   pub not-order : orderb order ≡ false → h ≡ freshHeap 0 → Says (making order arena ledger) (record { answer = Refused BadOrder; heap = h }) arena ledger

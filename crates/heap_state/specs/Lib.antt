@@ -1,4 +1,2 @@
 pub mod Lists
-pub mod Sound
 pub mod State
-pub mod Parts

@@ -2,7 +2,7 @@
 ghost use mathlib.Core.Path.{_≡_};
 ghost use mathlib.Core.Bool.{_&&_};
 ghost use lib.Dec.{leb};
-ghost use Rattle.heap_state.specs.Sound.{lengthsb, orderb};
+ghost use Rattle.heap_state.specs.State.{lengthsb, orderb};
 use super::Heap;
 
 pub(crate) fn lengths_ok(arena: usize, ledger: usize) -> bool
@@ -35,7 +35,7 @@ pub(crate) fn order_ok(order: u64) -> bool
     true
 }
 
-pub(crate) fn ranges_ok(order: u64, count: u64, arena: usize, ledger: usize) -> bool
+pub fn ranges_ok(order: u64, count: u64, arena: usize, ledger: usize) -> bool
     ensures { λ r. ⌜ r ≡ lengthsb arena ledger && orderb order && leb count ledger ⌝ }
 {
     if !lengths_ok(arena, ledger) {

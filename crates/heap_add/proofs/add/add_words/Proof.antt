@@ -5,8 +5,8 @@ use native.Mathlib.Omega.{arith}
 use denote.Ref.{now}
 use Rattle.heap_state.specs.Lists.{Memory}
 use Rattle.heap_state.specs.State.{state}
-use Rattle.heap_state.proofs.Facts.{sound-fact}
-use Rattle.heap_state.proofs.Counters.{counters-small}
+use Rattle.heap_blocks.proofs.Facts.{sound-fact}
+use Rattle.heap_blocks.proofs.Counters.{counters-small}
 use Rattle.heap_add.specs.Adding.{withLists}
 use Rattle.heap_core.proofs.Judging.{says-refused, says-done}
 use Rattle.heap_add.proofs.Adding.{free-there, granted-there, words-added}

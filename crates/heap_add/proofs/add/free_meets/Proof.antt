@@ -2,7 +2,7 @@
 use mathlib.Core.Path.{_≡_, refl, _∙_}
 use Prim.Native.Nat.{_-_}
 use denote.Ref.{now}
-use Rattle.heap_state.specs.Sound.{freeFrom}
+use Rattle.heap_blocks.specs.Sound.{freeFrom}
 use Rattle.heap_add.specs.Adding.{meets}
 use Rattle.heap_moves.specs.Moves.{mem}
 use Rattle.heap_add.proofs.Overlaps.{free-hit, free-miss, free-none}

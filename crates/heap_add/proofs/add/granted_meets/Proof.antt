@@ -7,7 +7,7 @@ use lib.Seq.{slice}
 use denote.Ref.{now}
 use Rattle.blocks.proofs.Powers.{one-shl}
 use Rattle.ledger.specs.Ledger.{grantOf, grants}
-use Rattle.heap_state.specs.Sound.{blockOf}
+use Rattle.heap_blocks.specs.Sound.{blockOf}
 use Rattle.heap_add.specs.Adding.{meets}
 use Rattle.heap_add.proofs.Overlaps.{granted-hit, granted-miss, granted-none}
 use borrow.Author.Needs.{needs}

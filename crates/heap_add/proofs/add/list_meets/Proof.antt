@@ -7,7 +7,7 @@ use lib.ListN.{length}
 use denote.Ref.{now}
 use Rattle.blocks.proofs.Rounding.{size-is}
 use Rattle.linked_list.specs.Links.{nodes}
-use Rattle.heap_state.specs.Sound.{blk}
+use Rattle.heap_blocks.specs.Sound.{blk}
 use Rattle.heap_add.specs.Adding.{meets}
 use Rattle.heap_add.proofs.Overlaps.{list-end, list-none, list-hit, list-miss}
 use borrow.Author.Needs.{needs}

@@ -3,7 +3,7 @@ use native.Mathlib.Omega.{arith}
 use denote.Ref.{now}
 use Rattle.blocks.proofs.Rounding.{size-is}
 use Rattle.heap_state.specs.State.{state}
-use Rattle.heap_state.proofs.Facts.{sound-fact}
+use Rattle.heap_blocks.proofs.Facts.{sound-fact}
 use Rattle.heap_core.proofs.Kept.{kept}
 use Rattle.heap_grant.proofs.Granting.{servable, fits, block-is, grant-says, done-not-refused}
 use borrow.Author.Needs.{needs}

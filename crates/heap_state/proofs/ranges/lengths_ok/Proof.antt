@@ -2,7 +2,7 @@
 use mathlib.Core.Path.{sym}
 use native.Mathlib.Omega.{arith}
 use Rattle.words.proofs.Tests.{no}
-use Rattle.heap_state.proofs.Facts.{lengths-fact, lengths-true}
+use Rattle.heap_state.proofs.InRange.{lengths-fact, lengths-true}
 use Rattle.heap_state.proofs.ranges.lengths_ok.Statement.{statement}
 use Rattle.heap_state.proofs.ranges.lengths_ok.Tie as tie
 

@@ -2,7 +2,7 @@
 use mathlib.Core.Path.{sym}
 use native.Mathlib.Omega.{arith}
 use Rattle.words.proofs.Tests.{no}
-use Rattle.heap_state.proofs.Facts.{order-fact, order-true}
+use Rattle.heap_state.proofs.InRange.{order-fact, order-true}
 use Rattle.heap_state.proofs.ranges.order_ok.Statement.{statement}
 use Rattle.heap_state.proofs.ranges.order_ok.Tie as tie
 
