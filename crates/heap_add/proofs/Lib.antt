@@ -1,2 +1,1 @@
-pub mod Overlaps
 pub mod Adding

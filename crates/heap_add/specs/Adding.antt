@@ -1,13 +1,14 @@
 -- What adding decides on a sound heap, from docs/RULES.md, "The heap over an arena" and "Refusal numbers": "rounds start up and end down to
 -- multiples of 8 and cuts as above".
-use mathlib.Core.Bool.{Bool, false, _&&_, _||_}
-use mathlib.Core.List.{List, [], _∷_}
-use Prim.Native.Nat.{ℕ, _+_, _-_, _*_, _/_, _^_}
+use mathlib.Core.Bool.{_&&_, _||_}
+use mathlib.Core.List.{[], _∷_}
+use Prim.Native.Nat.{ℕ, _+_, _-_, _*_, _/_}
 use lib.Dec.{eqb, ltb}
 use Rattle.answers.specs.declared.Refusal.the-variants.{BadRange, NullStart, Overlap}
 use Rattle.heap_state.specs.Lists.{Memory, pushAll}
-use Rattle.heap_blocks.specs.Sound.{Block, blk, allBlocks}
+use Rattle.heap_blocks.specs.Sound.{allBlocks}
 use Rattle.heap_state.specs.State.{State}
+use Rattle.heap_overlap.specs.Meeting.{meets}
 use Rattle.heap_core.specs.Deciding.{Decision, done, refuse, judge, memory, bytes, top}
 
 abbrev pub roundUp : ℕ → ℕ
@@ -15,11 +16,6 @@ roundUp s = (s + 7) / 8 * 8
 
 abbrev pub roundDown : ℕ → ℕ
 roundDown e = e / 8 * 8
-
--- a part of [s, e) is free or granted already
-abbrev pub meets : ℕ → ℕ → List Block → Bool
-meets s e [] = false
-meets s e (blk k a ∷ bs) = (ltb s e && ltb a e && ltb s (a + 2 ^ k)) || meets s e bs
 
 abbrev pub withLists : State → Memory → ℕ → State
 withLists s m total =

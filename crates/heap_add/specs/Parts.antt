@@ -1,18 +1,13 @@
 -- Forms of the promises of the parts in src/.
-use mathlib.Core.Bool.{Bool, _&&_}
 use mathlib.Core.List.{[], _∷_}
 use Prim.Native.Nat.{ℕ, _+_, _-_}
-use lib.Dec.{ltb}
 use Rattle.answers.specs.declared.Refusal.the-variants.{Overlap}
 use Rattle.heap_state.specs.Lists.{pushAll}
 use Rattle.heap_blocks.specs.Sound.{allBlocks}
 use Rattle.heap_state.specs.State.{State}
 use Rattle.heap_core.specs.Deciding.{Decision, done, refuse, judge, memory, top}
-use Rattle.heap_add.specs.Adding.{meets, withLists}
-
--- a block of `size` bytes at the address has a byte in [start, end), which is not empty
-abbrev pub meetsBlock : ℕ → ℕ → ℕ → ℕ → Bool
-meetsBlock address size start end = ltb address end && ltb start (address + size)
+use Rattle.heap_overlap.specs.Meeting.{meets}
+use Rattle.heap_add.specs.Adding.{withLists}
 
 -- what is decided of the bytes [from, to), whole words and not none, once they are known to be inside the arena and above address 0
 unfoldable pub addingWords : ℕ → ℕ → State → Decision

@@ -13,7 +13,8 @@ use Rattle.heap_state.specs.Lists.{pushAll}
 use Rattle.heap_blocks.specs.Sound.{Block, allBlocks, freeFrom}
 use Rattle.heap_state.specs.State.{State}
 use Rattle.heap_core.specs.Deciding.{memory, bytes, top, granted}
-use Rattle.heap_add.specs.Adding.{roundUp, roundDown, meets, adding}
+use Rattle.heap_add.specs.Adding.{roundUp, roundDown, adding}
+use Rattle.heap_overlap.specs.Meeting.{meets}
 use Rattle.heap_laws.specs.ListRules.{lists, addL}
 use Rattle.heap_laws.specs.Claims.{Healthy, afterAdding}
 use Rattle.heap_laws.proofs.Adding.{Clear, clear, add-managed}

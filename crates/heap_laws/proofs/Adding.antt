@@ -15,7 +15,7 @@ use Rattle.blocks.proofs.Powers.{exp-le, multiple, multiple-le}
 use Rattle.blocks.proofs.Rounding.{size-class}
 use Rattle.heap_state.specs.Lists.{Memory, push, pushAll}
 use Rattle.heap_blocks.specs.Sound.{Block, blk}
-use Rattle.heap_add.specs.Adding.{meets}
+use Rattle.heap_overlap.specs.Meeting.{meets}
 use Rattle.heap_laws.specs.ListRules.{pushL, addL}
 use Rattle.heap_laws.proofs.Shuffles.{_~_, same, keep, swap, then, back, bring}
 use Rattle.heap_laws.proofs.Placing.{Fits, under, over, Beside, none, next}

@@ -1,11 +1,11 @@
 // Whether a heap is sound: a test of any record, arena and ledger, so nothing is asked of a caller.
 ghost use mathlib.Core.Path.{_≡_};
 ghost use Rattle.heap_blocks.specs.Sound.{soundb};
+use heap_lists::free_lists;
 use heap_pairs::free_apart;
+use heap_records::records;
 use heap_state::Heap;
 use heap_state::ranges_ok;
-use heap_walks::free_lists;
-use heap_walks::records;
 use words::zeros_from;
 
 // The pairs come last: they are the most work, and go along lists that are known to end.
