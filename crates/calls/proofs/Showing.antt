@@ -5,8 +5,8 @@ use Prim.Native.Nat.{ℕ, _+_, _≤_}
 use native.Mathlib.Omega.{arith}
 use lib.ListN.{length}
 use Rattle.answers.specs.Paper.{paper}
-use Rattle.lines.specs.Put.{Put, Shown}
-use Rattle.lines.proofs.Lengths.{reply-length}
+use Rattle.texts.specs.Put.{Put, Shown}
+use Rattle.frame_lines.proofs.Lengths.{reply-length}
 use Rattle.calls.specs.Run.{lineOf}
 use Rattle.calls.specs.declared.Printed.{Printed}
 use Rattle.calls.specs.declared.Printed.the-variants.{Reply, BadLine}

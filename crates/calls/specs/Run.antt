@@ -7,11 +7,12 @@ use Rattle.answers.specs.Paper.{paper}
 use Rattle.frame.specs.Outcome as frame
 use Rattle.frame_core.specs.Carried.{Reply, Outcome}
 use Rattle.table.specs.Layout.{markOf, classOf, startOf}
-use Rattle.lines.specs.Command.{commandOf}
+use Rattle.frame_lines.specs.Command.{commandOf}
 use Rattle.lines.specs.Running as running
-use Rattle.lines.specs.Text.{badLine, replyText, recordText}
-use Rattle.lines.specs.declared.Command.{Command}
-use Rattle.lines.specs.declared.Command.the-variants.{Order, Add, Alloc, At, Free, Bad}
+use Rattle.texts.specs.Text.{badLine}
+use Rattle.frame_lines.specs.Text.{replyText, recordText}
+use Rattle.frame_lines.specs.declared.Command.{Command}
+use Rattle.frame_lines.specs.declared.Command.the-variants.{Order, Add, Alloc, At, Free, Bad}
 use Rattle.calls.specs.declared.Printed.{Printed}
 use Rattle.calls.specs.declared.Printed.the-variants.{Reply as Printed·reply, BadLine}
 

@@ -2,15 +2,15 @@
 ghost use mathlib.Core.Path.{_≡_};
 ghost use Prim.Native.Nat.{_+_, _≤_, _<_};
 ghost use lib.ListN.{length, take};
-ghost use Rattle.lines.specs.Command.{commandOf};
-ghost use Rattle.lines.specs.Put.{Put, Shown};
+ghost use Rattle.frame_lines.specs.Command.{commandOf};
+ghost use Rattle.texts.specs.Put.{Put, Shown};
 ghost use Rattle.calls.specs.Run.{printed, wordsAfter, lineOf, blockLine, Took, Ended};
 use answers::Answer;
+use frame_lines::Command;
 use libc::STDIN_FILENO;
 use libc::STDOUT_FILENO;
-use lines::Command;
 
-// No printed line is longer (lines/proofs/Lengths), so that none is cut.
+// No printed line is longer (frame_lines/proofs/Lengths), so that none is cut.
 const LONGEST: usize = 64;
 
 // What a line prints: the reply of a call, with or without its value, or that it is no call.
@@ -64,14 +64,14 @@ fn put_printed(line: Printed, out: &mut [u8], at: usize) -> usize
     ensures { λ r. ⌜ Put (lineOf line) (now (out .entry)) at r (now (out .exit)) ⌝ }
 {
     match line {
-        Printed::Reply(answer, valued) => lines::put_reply(
+        Printed::Reply(answer, valued) => frame_lines::put_reply(
             answers::number(answer),
             answers::value(answer),
             valued,
             out,
             at,
         ),
-        Printed::BadLine => lines::put(b"bad line\n", out, at),
+        Printed::BadLine => texts::put(b"bad line\n", out, at),
     }
 }
 
@@ -84,7 +84,7 @@ fn run_line(held: &[u8], len: usize, t: &mut [u64], out: &mut [u8], at: usize) -
     ensures { λ r. ⌜ now (t .exit) ≡ wordsAfter (commandOf (take len (now (held .entry)))) (now (t .entry)) ⌝ }
     ensures { λ r. ⌜ Shown (printed (commandOf (take len (now (held .entry)))) (now (t .entry))) (now (out .entry)) r (now (out .exit)) ⌝ }
 {
-    let line = run(lines::command_of(&held[..len]), t);
+    let line = run(frame_lines::command_of(&held[..len]), t);
     let free = room(out, at);
     put_printed(line, out, free)
 }
@@ -142,7 +142,7 @@ fn put_block(w: u64, out: &mut [u8], at: usize) -> usize
     let start = table::start_of(w);
     let class = table::class_of(w);
     let granted = table::mark_of(w) == 1;
-    lines::put_record(start, class, granted, out, at)
+    frame_lines::put_record(start, class, granted, out, at)
 }
 
 // Prints the table: its heading, and a line for each record.
@@ -155,7 +155,7 @@ fn put_table(t: &[u64], out: &mut [u8], at: usize) -> usize
     let head = t[0];
     let count = table::count_of(head);
     let first = room(out, at);
-    let mut to = lines::put_heading(table::order_of(head), count as u64, out, first);
+    let mut to = frame_lines::put_heading(table::order_of(head), count as u64, out, first);
     let mut i = 1;
     while i < t.len() && i <= count {
         let free = room(out, to);

@@ -8,7 +8,7 @@ use lib.ListN.{length, take, drop, getD, length-append, length-drop, take-append
 use Rattle.answers.specs.declared.Answer.the-variants.{Refused}
 use Rattle.answers.specs.declared.Refusal.the-variants.{BadState}
 use Rattle.answers.specs.Paper.{paper}
-use Rattle.lines.specs.Text.{decimal, lineFeed}
+use Rattle.texts.specs.Text.{decimal, lineFeed}
 use Rattle.linked_list.specs.Links.{next, nodes}
 use Rattle.heap_core.specs.Deciding.{memory}
 use Rattle.heap_state.specs.Lists.{list}

@@ -6,11 +6,11 @@ use Prim.Native.Nat.{ℕ, _+_, _≤_}
 use native.Mathlib.Omega.{arith}
 use lib.ListN.{length, take, length-append}
 use Rattle.answers.specs.Paper.{paper}
-use Rattle.lines.specs.Line.{Line}
-use Rattle.lines.specs.Put.{Put, Shown}
-use Rattle.lines.specs.Text.{decimal, lineFeed}
-use Rattle.lines.proofs.Feeding.{line-enough}
-use Rattle.lines.proofs.Lengths.{length-decimal}
+use Rattle.grammar.specs.Line.{Line}
+use Rattle.texts.specs.Put.{Put, Shown}
+use Rattle.texts.specs.Text.{decimal, lineFeed}
+use Rattle.grammar.proofs.Sayings.{line-enough}
+use Rattle.texts.proofs.Lengths.{length-decimal}
 use Rattle.heap_calls.specs.declared.Printed.{Printed}
 use Rattle.heap_calls.specs.declared.Printed.the-variants.{Reply, Figures, Nodes, Set, BadLine}
 use Rattle.heap_calls.specs.Command.{commandSaid, commandOf}

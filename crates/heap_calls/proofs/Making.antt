@@ -15,7 +15,7 @@ use Rattle.heap_calls.specs.declared.Lent.{Lent}
 use Rattle.heap_calls.specs.declared.Printed.the-variants.{BadLine}
 use Rattle.heap_calls.specs.declared.Ran.{Ran}
 use Rattle.heap_calls.specs.Run.{machine, withHeap, lending, tooMany, made, afterMaking, after}
-use Rattle.lines.specs.Text.{badLine}
+use Rattle.texts.specs.Text.{badLine}
 use Rattle.heap_calls.specs.Text.{outcomeText, lineOf, byNode, printed}
 use Rattle.heap_calls.specs.Running.{Does, ranWith, repliedWith}
 use Rattle.heap_calls.proofs.Lending.{reply-line, replied-line, replied-short}

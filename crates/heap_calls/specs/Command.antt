@@ -2,8 +2,8 @@
 use mathlib.Core.Bool.{cond}
 use mathlib.Core.List.{List, [], _∷_}
 use Prim.Native.Nat.{ℕ}
-use Rattle.lines.specs.Bytes.{bytes}
-use Rattle.lines.specs.Line.{Line, said, bad, lineOf, same}
+use Rattle.texts.specs.Bytes.{bytes}
+use Rattle.grammar.specs.Line.{Line, said, bad, lineOf, same}
 use Rattle.heap_calls.specs.declared.Call.the-variants.{Add, Init, Alloc, Free, Zero}
 use Rattle.heap_calls.specs.declared.Cell.the-variants.{Arena, Ledger, Head, Count, User, Allocated, Total, Order}
 use Rattle.heap_calls.specs.declared.Command.{Command}

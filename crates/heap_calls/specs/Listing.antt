@@ -3,8 +3,8 @@ use mathlib.Core.Bool.{cond}
 use mathlib.Core.List.{List, [], _∷_, _++_}
 use Prim.Native.Nat.{ℕ, zero, suc, _+_, _/_, _%_}
 use lib.Dec.{ltb}
-use Rattle.lines.specs.Bytes.{bytes}
-use Rattle.lines.specs.Text.{decimal, lineFeed}
+use Rattle.texts.specs.Bytes.{bytes}
+use Rattle.texts.specs.Text.{decimal, lineFeed}
 use Rattle.heap_state.specs.declared.Heap.{Heap}
 
 -- "`record order O count C user U allocated A total T`"

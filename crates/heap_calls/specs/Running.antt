@@ -10,7 +10,7 @@ use Rattle.heap_state.specs.State.{State}
 use Rattle.heap_blocks.specs.Sound.{isSound}
 use Rattle.heap_state.specs.declared.Reply.{Reply}
 use Rattle.lines.specs.Gather.{lastLine}
-use Rattle.lines.specs.Put.{Shown}
+use Rattle.texts.specs.Put.{Shown}
 use Rattle.lines.specs.Running as running
 use Rattle.heap_calls.specs.declared.Command.{Command}
 use Rattle.heap_calls.specs.declared.Lent.{Lent}

@@ -5,8 +5,8 @@ use Prim.Native.Nat.{ℕ}
 use lib.ListN.{length}
 use Rattle.answers.specs.Paper.{paper}
 use Rattle.linked_list.specs.Links.{nodes}
-use Rattle.lines.specs.Bytes.{bytes}
-use Rattle.lines.specs.Text.{decimal, lineFeed, badLine}
+use Rattle.texts.specs.Bytes.{bytes}
+use Rattle.texts.specs.Text.{decimal, lineFeed, badLine}
 use Rattle.heap_state.specs.Lists.{list}
 use Rattle.heap_state.specs.State.{State, Outcome}
 use Rattle.heap_blocks.specs.Sound.{isSound}

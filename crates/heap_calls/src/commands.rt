@@ -5,9 +5,9 @@ ghost use Rattle.heap_calls.specs.Command.{commandOf, noNumber, oneNumbe
 use crate::Call;
 use crate::Cell;
 use crate::Command;
-use lines::Said;
-use lines::named;
-use lines::say;
+use grammar::Said;
+use grammar::named;
+use grammar::say;
 
 fn of_none(line: &[u8], len: usize) -> Command
     ensures { λ r. ⌜ r ≡ noNumber (take len (now (line .entry))) ⌝ }

@@ -2,15 +2,15 @@
 ghost use mathlib.Core.Path.{_≡_};
 ghost use Prim.Native.Nat.{_+_, _≤_, _<_};
 ghost use lib.ListN.{length};
-ghost use Rattle.lines.specs.Put.{Put};
+ghost use Rattle.texts.specs.Put.{Put};
 ghost use Rattle.heap_calls.specs.Listing.{hexDigit, hex, recordText, wordText};
 ghost use Rattle.heap_calls.specs.Run.{Fits};
 use crate::Lent;
 use crate::showing::put_nodes;
 use crate::showing::room;
 use heap_state::Heap;
-use lines::put;
-use lines::put_with;
+use texts::put;
+use texts::put_with;
 
 // The line of the record's numbers, without its heads.
 fn put_record(heap: Heap, out: &mut [u8], at: usize) -> usize

@@ -4,15 +4,15 @@ ghost use mathlib.Core.Path.{_≡_};
 ghost use Prim.Native.Nat.{_+_, _≤_};
 ghost use lib.ListN.{length};
 ghost use Rattle.answers.specs.Paper.{paper};
-ghost use Rattle.lines.specs.Put.{Put};
+ghost use Rattle.texts.specs.Put.{Put};
 ghost use Rattle.heap_calls.specs.Text.{replyText, figuresText, lineOf, byNode};
 use crate::Printed;
 use answers::Answer;
 use libc::STDOUT_FILENO;
-use lines::put;
-use lines::put_number;
-use lines::put_with;
 use linked_list::next;
+use texts::put;
+use texts::put_number;
+use texts::put_with;
 
 // No piece of an output is longer, so that none is cut.
 const LONGEST: usize = 160;

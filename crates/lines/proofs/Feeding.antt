@@ -1,4 +1,4 @@
--- However an input is cut into chunks, its lines are the same, and a buffer of 81 bytes holds enough of each.
+-- However an input is cut into chunks, its lines are the same, and a buffer holds as many bytes of each as it has room for.
 use mathlib.Core.Bool.{Bool, true, false, cond}
 use mathlib.Core.List.{List, [], _∷_, _++_, append-nil}
 use mathlib.Core.Path.{_≡_, refl, sym, ap, subst, _∙_}
@@ -7,15 +7,13 @@ use native.Mathlib.Nat.{suc-add}
 use native.Mathlib.Omega.{arith}
 use borrow.Author.Tests.{lt-ltb, leb-true, leb-false}
 use lib.Dec.{eqb, leb, ltb}
-use lib.ListN.{length, take, drop, length-append, length-take}
+use lib.ListN.{length, take, drop, length-append}
 use lib.Seq.{sets, sets-eq, take-all, take-at, take-append-add, append-snoc, length-take-le}
 use Rattle.lines.specs.Gather.{first, lineHere, lineEnds, Reading, front, endedOf, openOf, lastLine, linesOf, fedByte, fed, linesRead}
-use Rattle.lines.specs.Line.{lineOf}
 use Rattle.lines.specs.Pieces.{onto, cut}
-use Rattle.lines.specs.Put.{placeAfter}
+use Rattle.texts.specs.Put.{placeAfter}
 use Rattle.lines.proofs.Gathering.{cut-some}
-use Rattle.lines.proofs.Putting.{sets-fit}
-use Rattle.lines.proofs.Sayings.{too-long}
+use Rattle.texts.proofs.Putting.{sets-fit}
 
 -- ---- an input in chunks
 
@@ -125,16 +123,6 @@ line-all (b ∷ bs) e = by-cases (eqb b 10) e (line-all bs)
     by-cases false e′ rest = onto-all b bs (cut 10 bs) (cut-some 10 bs) e′ rest
 
 -- ---- a buffer of 81 bytes
-
--- more than 80 bytes say no more than 81 do
-pub line-enough : (line : List ℕ) → lineOf (take 81 line) ≡ lineOf line
-line-enough line = by-cases (leb (length line) 81) refl
-  where
-    by-cases : (t : Bool) → leb (length line) 81 ≡ t → lineOf (take 81 line) ≡ lineOf line
-    by-cases true e = let short : length line ≤ 81 = leb-true (length line) 81 e in ap lineOf (take-all 81 line short)
-    by-cases false e =
-        let long : 81 < length line = leb-false (length line) 81 e in
-        sym (too-long (take 81 line) (omega (arith, length-take 81 line))) ∙ too-long line (omega arith)
 
 take-front : (k : ℕ) (line x : List ℕ) → take k (take k line ++ x) ≡ take k (line ++ x)
 take-front zero line x = refl

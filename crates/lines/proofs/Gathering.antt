@@ -10,7 +10,7 @@ use lib.ListN.{length, take, drop}
 use lib.Seq.{length-take-le}
 use Rattle.lines.specs.Pieces.{onto, cut, piecesAfter, PieceEnds}
 use Rattle.lines.specs.Gather.{first, lineHere, lineEnds, gathered}
-use Rattle.lines.specs.Put.{placeAfter}
+use Rattle.texts.specs.Put.{placeAfter}
 use Rattle.lines.specs.declared.Gathered.{Gathered}
 
 onto-some : (b : ℕ) (ps : List (List ℕ)) → 0 < length (onto b ps)

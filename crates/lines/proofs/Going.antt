@@ -8,7 +8,7 @@ use native.Mathlib.Omega.{arith}
 use lib.ListN.{length, take, drop, drop-of-length-le, length-take, length-drop}
 use lib.Seq.{sets, drop-drop}
 use Rattle.lines.specs.Gather.{Reading, fed, lineHere, lineEnds, gathered, lastLine, linesOf}
-use Rattle.lines.specs.Put.{placeAfter}
+use Rattle.texts.specs.Put.{placeAfter}
 use Rattle.lines.specs.Running.{afterAll, Holds, Took, Ended}
 use Rattle.lines.specs.declared.Gathered.{Gathered}
 use Rattle.lines.proofs.Feeding.{chunks, fed-from, lines-fed, gather-fed, line-all, held-kept}

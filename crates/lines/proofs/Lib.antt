@@ -1,11 +1,4 @@
 pub mod Cutting
-pub mod Numerals
-pub mod Sayings
-pub mod Putting
-pub mod Decimals
 pub mod Gathering
 pub mod Feeding
-pub mod Reading
-pub mod Lengths
-pub mod OneSaying
 pub mod Going

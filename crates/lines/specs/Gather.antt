@@ -5,7 +5,7 @@ use Prim.Native.Nat.{ℕ, _+_}
 use lib.Dec.{eqb, ltb}
 use lib.ListN.{length}
 use Rattle.lines.specs.Pieces.{cut}
-use Rattle.lines.specs.Put.{placeAfter}
+use Rattle.texts.specs.Put.{placeAfter}
 use Rattle.lines.specs.declared.Gathered.{Gathered}
 
 abbrev pub first : List (List ℕ) → List ℕ

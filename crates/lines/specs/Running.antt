@@ -9,7 +9,7 @@ abbrev pub afterAll : {S : Type 0} → (List ℕ → S → S) → List (List ℕ
 afterAll step [] s = s
 afterAll step (l ∷ ls) s = afterAll step ls (step l s)
 
--- a buffer holds a line by its first 81 bytes, which say as much as all of it does (proofs/Feeding, `line-enough`)
+-- a buffer holds a line by its first 81 bytes, which say as much as all of it does (grammar/proofs/Sayings, `line-enough`)
 abbrev pub Holds : List ℕ → ℕ → List ℕ → Type 0
 Holds held len line = take len held ≡ take 81 line
 

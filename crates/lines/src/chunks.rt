@@ -5,7 +5,7 @@ ghost use lib.Seq.{sets};
 ghost use Rattle.lines.specs.Gather.{gathered, lineHere};
 use crate::Gathered;
 use crate::pieces::piece_end;
-use crate::text::put;
+use texts::put;
 
 // Takes the bytes of a chunk from a place on, up to the next line feed, behind the len bytes of the line that are held already.
 pub fn gather(chunk: &[u8], from: usize, held: &mut [u8], len: usize) -> Gathered

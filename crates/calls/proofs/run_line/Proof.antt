@@ -4,8 +4,8 @@ use borrow.Author.Needs.{needs}
 use native.Mathlib.Omega.{arith}
 use lib.ListN.{length, take}
 use lib.Seq.{length-take-le}
-use Rattle.lines.specs.Command.{commandOf}
-use Rattle.lines.specs.declared.Command.{Command}
+use Rattle.frame_lines.specs.Command.{commandOf}
+use Rattle.frame_lines.specs.declared.Command.{Command}
 use Rattle.calls.specs.Run.{printed, wordsAfter}
 use Rattle.calls.proofs.Showing.{shown}
 use Rattle.calls.proofs.run_line.Statement.{statement}

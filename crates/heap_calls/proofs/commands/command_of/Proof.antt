@@ -1,7 +1,7 @@
 -- `heap_calls::commands::command_of` meets its contract: what the line says, under its name. Assumes nothing.
 use mathlib.Core.Path.{sym, ap, _∙_}
 use borrow.Author.Needs.{needs}
-use Rattle.lines.specs.Line.{lineSaid}
+use Rattle.grammar.specs.Line.{lineSaid}
 use Rattle.heap_calls.specs.Command.{commandOf, commandSaid}
 use Rattle.heap_calls.proofs.commands.command_of.Statement.{statement}
 use Rattle.heap_calls.proofs.commands.command_of.Tie as tie

@@ -8,7 +8,7 @@ use native.Mathlib.Omega.{arith}
 use lib.ListN.{length, take, drop, drop-of-length-le, length-drop}
 use lib.Seq.{sets, length-take-le}
 use Rattle.lines.specs.Pieces.{PieceEnds}
-use Rattle.lines.specs.Put.{Put}
+use Rattle.texts.specs.Put.{Put}
 use Rattle.lines.specs.Gather.{lineHere, gathered}
 use Rattle.lines.specs.declared.Gathered.{Gathered}
 use Rattle.lines.proofs.Cutting.{tail-whole}

@@ -1,0 +1,4 @@
+pub mod Numerals
+pub mod Sayings
+pub mod Reading
+pub mod OneSaying
