@@ -15,7 +15,7 @@ short : (p : Printed) → length (lineOf p) ≤ 64
 short (Reply a valued) = reply-length (paper a .number) (paper a .value) valued
 short BadLine = omega arith
 
-pub shown : (p : Printed) (text buffer left : List ℕ) (from after : ℕ) → lineOf p ≡ text → from + 64 ≤ length buffer → Put (lineOf p) buffer from after left
+pub shown : (p : Printed) (text buffer left : List ℕ) (from after : ℕ) → lineOf p ≡ text → from + 160 ≤ length buffer → Put (lineOf p) buffer from after left
     → Shown text buffer after left
 shown p text buffer left from after e room q =
     record { from = from; put = subst (λ (t : List ℕ). Put t buffer from after left) e q; whole = omega (arith, q .place, short p, ap length e) }

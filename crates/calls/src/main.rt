@@ -1,6 +1,6 @@
 // Runs each line of standard input as a call on a frame table of 4,096 words, prints its reply, and at the end the table.
 ghost use mathlib.Core.Path.{_≡_};
-ghost use Prim.Native.Nat.{_+_, _≤_, _<_};
+ghost use Prim.Native.Nat.{_≤_, _<_};
 ghost use lib.ListN.{length, take};
 ghost use Rattle.frame_lines.specs.Command.{commandOf};
 ghost use Rattle.texts.specs.Put.{Put, Shown};
@@ -9,9 +9,7 @@ use answers::Answer;
 use frame_lines::Command;
 use libc::STDIN_FILENO;
 use libc::STDOUT_FILENO;
-
-// No printed line is longer (frame_lines/proofs/Lengths), so that none is cut.
-const LONGEST: usize = 64;
+use texts::room;
 
 // What a line prints: the reply of a call, with or without its value, or that it is no call.
 enum Printed {
@@ -29,19 +27,6 @@ struct Place {
 struct Step {
     place: Place,
     more: bool,
-}
-
-// Writes the output that waits where a line might have no room behind it, and answers the place for the next line.
-fn room(out: &[u8], at: usize) -> usize
-    requires { ⌜ at ≤ length (now out) ⌝ }
-    requires { ⌜ 64 ≤ length (now out) ⌝ }
-    ensures { λ r. ⌜ r + 64 ≤ length (now (out .entry)) ⌝ }
-{
-    if out.len() - at < LONGEST {
-        io::write_all(STDOUT_FILENO, &out[..at]);
-        return 0;
-    }
-    at
 }
 
 // Runs a command on the table.
@@ -79,7 +64,7 @@ fn put_printed(line: Printed, out: &mut [u8], at: usize) -> usize
 fn run_line(held: &[u8], len: usize, t: &mut [u64], out: &mut [u8], at: usize) -> usize
     requires { ⌜ len ≤ length (now held) ⌝ }
     requires { ⌜ at ≤ length (now out) ⌝ }
-    requires { ⌜ 64 ≤ length (now out) ⌝ }
+    requires { ⌜ 160 ≤ length (now out) ⌝ }
     ensures { λ r. ⌜ r ≤ length (now (out .exit)) ⌝ }
     ensures { λ r. ⌜ now (t .exit) ≡ wordsAfter (commandOf (take len (now (held .entry)))) (now (t .entry)) ⌝ }
     ensures { λ r. ⌜ Shown (printed (commandOf (take len (now (held .entry)))) (now (t .entry))) (now (out .entry)) r (now (out .exit)) ⌝ }
@@ -94,7 +79,7 @@ fn take_all(chunk: &[u8], held: &mut [u8], t: &mut [u64], out: &mut [u8], place:
     requires { ⌜ length (now held) ≡ 81 ⌝ }
     requires { ⌜ place .held ≤ 81 ⌝ }
     requires { ⌜ place .out ≤ length (now out) ⌝ }
-    requires { ⌜ 64 ≤ length (now out) ⌝ }
+    requires { ⌜ 160 ≤ length (now out) ⌝ }
     ensures { λ r. ⌜ r .held ≤ 81 ⌝ }
     ensures { λ r. ⌜ r .out ≤ length (now (out .exit)) ⌝ }
     ensures { λ r. ⌜ Took (now (chunk .entry)) (now (held .entry)) (place .held) (now (t .entry)) (now (held .exit)) (r .held) (now (t .exit)) ⌝ }
@@ -119,7 +104,7 @@ fn read_some(held: &mut [u8], t: &mut [u64], out: &mut [u8], place: Place) -> St
     requires { ⌜ length (now held) ≡ 81 ⌝ }
     requires { ⌜ place .held ≤ 81 ⌝ }
     requires { ⌜ place .out ≤ length (now out) ⌝ }
-    requires { ⌜ 64 ≤ length (now out) ⌝ }
+    requires { ⌜ 160 ≤ length (now out) ⌝ }
     ensures { λ r. ⌜ r .place .held ≤ 81 ⌝ }
     ensures { λ r. ⌜ r .place .out ≤ length (now (out .exit)) ⌝ }
 {
@@ -149,7 +134,7 @@ fn put_block(w: u64, out: &mut [u8], at: usize) -> usize
 fn put_table(t: &[u64], out: &mut [u8], at: usize) -> usize
     requires { ⌜ 0 < length (now t) ⌝ }
     requires { ⌜ at ≤ length (now out) ⌝ }
-    requires { ⌜ 64 ≤ length (now out) ⌝ }
+    requires { ⌜ 160 ≤ length (now out) ⌝ }
     ensures { λ r. ⌜ r ≤ length (now (out .exit)) ⌝ }
 {
     let head = t[0];
@@ -168,7 +153,7 @@ fn put_table(t: &[u64], out: &mut [u8], at: usize) -> usize
 // Reads to the input's end. A proved loop has to end, and nothing says that an input does: it counts down from a number that no run uses up.
 fn read_all(held: &mut [u8], t: &mut [u64], out: &mut [u8]) -> Place
     requires { ⌜ length (now held) ≡ 81 ⌝ }
-    requires { ⌜ 64 ≤ length (now out) ⌝ }
+    requires { ⌜ 160 ≤ length (now out) ⌝ }
     ensures { λ r. ⌜ r .held ≤ 81 ⌝ }
     ensures { λ r. ⌜ r .out ≤ length (now (out .exit)) ⌝ }
 {
@@ -189,7 +174,7 @@ fn read_all(held: &mut [u8], t: &mut [u64], out: &mut [u8]) -> Place
 fn run_last(held: &[u8], len: usize, t: &mut [u64], out: &mut [u8], at: usize) -> usize
     requires { ⌜ len ≤ length (now held) ⌝ }
     requires { ⌜ at ≤ length (now out) ⌝ }
-    requires { ⌜ 64 ≤ length (now out) ⌝ }
+    requires { ⌜ 160 ≤ length (now out) ⌝ }
     ensures { λ r. ⌜ r ≤ length (now (out .exit)) ⌝ }
     ensures { λ r. ⌜ Ended (now (held .entry)) len (now (t .entry)) (now (t .exit)) ⌝ }
 {
@@ -204,7 +189,7 @@ fn finish(held: &[u8], t: &mut [u64], out: &mut [u8], place: Place)
     requires { ⌜ place .held ≤ length (now held) ⌝ }
     requires { ⌜ place .out ≤ length (now out) ⌝ }
     requires { ⌜ 0 < length (now t) ⌝ }
-    requires { ⌜ 64 ≤ length (now out) ⌝ }
+    requires { ⌜ 160 ≤ length (now out) ⌝ }
     ensures { λ _. ⌜ Ended (now (held .entry)) (place .held) (now (t .entry)) (now (t .exit)) ⌝ }
 {
     let len = place.held;

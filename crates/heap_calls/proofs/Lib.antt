@@ -1,5 +1,1 @@
-pub mod Lending
-pub mod Making
-pub mod Cells
-pub mod Lines
-pub mod Hexadecimals
+pub mod Enough

@@ -1,5 +1,1 @@
-pub mod Command
-pub mod Run
-pub mod Text
 pub mod Running
-pub mod Listing

@@ -2,19 +2,19 @@
 ghost use mathlib.Core.Path.{_≡_};
 ghost use Prim.Native.Nat.{_≤_, _<_};
 ghost use lib.ListN.{length, take};
-ghost use Rattle.heap_calls.specs.Run.{machine, Fits, nothingLent};
+ghost use Rattle.heap_runs.specs.Run.{machine, Fits, nothingLent};
 ghost use Rattle.heap_calls.specs.Running.{lineAfter, ShownShort, Took, Ended, EndedWords};
-use crate::Lent;
 use crate::Place;
 use crate::Step;
-use crate::commands::command_of;
-use crate::listing::put_all;
-use crate::running::run;
-use crate::showing::put_printed;
-use crate::showing::room;
+use heap_lines::command_of;
+use heap_listed::put_all;
+use heap_runs::Lent;
+use heap_runs::run;
+use heap_shown::put_printed;
 use heap_state::Heap;
 use libc::STDIN_FILENO;
 use libc::STDOUT_FILENO;
+use texts::room;
 
 // What a line leaves: the place after what it prints, and what is lent.
 struct Went {

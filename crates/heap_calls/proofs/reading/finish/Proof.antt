@@ -2,7 +2,7 @@
 use borrow.Author.Needs.{needs}
 use mathlib.Core.Path.{sym, ap}
 use lib.Seq.{length-take-le}
-use Rattle.heap_calls.specs.Run.{Machine}
+use Rattle.heap_runs.specs.Run.{Machine}
 use Rattle.heap_calls.proofs.reading.finish.Statement.{statement}
 use Rattle.heap_calls.proofs.reading.finish.Tie as tie
 

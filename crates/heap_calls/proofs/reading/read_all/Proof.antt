@@ -4,8 +4,8 @@ use Prim.Native.Nat.{_≤_}
 use mathlib.Core.Path.{_≡_}
 use native.Mathlib.Omega.{arith}
 use lib.ListN.{length}
-use Rattle.heap_calls.specs.Run.{Fits}
-use Rattle.heap_calls.proofs.Lending.{fits-nothing}
+use Rattle.heap_runs.specs.Run.{Fits}
+use Rattle.heap_runs.proofs.Lending.{fits-nothing}
 use Rattle.heap_calls.proofs.reading.read_all.Statement.{statement}
 use Rattle.heap_calls.proofs.reading.read_all.Tie as tie
 

@@ -3,9 +3,9 @@ use borrow.Author.Needs.{needs}
 use Prim.Native.Nat.{_-_, _<_}
 use native.Mathlib.Omega.{arith}
 use Rattle.lines.proofs.Going.{last-none, last-some}
-use Rattle.heap_calls.specs.Run.{machine}
+use Rattle.heap_runs.specs.Run.{machine}
 use Rattle.heap_calls.specs.Running.{lineAfter}
-use Rattle.heap_calls.proofs.Lines.{enough}
+use Rattle.heap_calls.proofs.Enough.{enough}
 use Rattle.heap_calls.proofs.reading.run_last.Statement.{statement}
 use Rattle.heap_calls.proofs.reading.run_last.Tie as tie
 

@@ -5,11 +5,11 @@ use mathlib.Core.Path.{_≡_, sym, ap, _∙_}
 use native.Mathlib.Omega.{arith}
 use lib.ListN.{take}
 use lib.Seq.{length-take-le}
-use Rattle.heap_calls.specs.declared.Command.{Command}
-use Rattle.heap_calls.specs.Command.{commandOf}
-use Rattle.heap_calls.specs.Run.{machine, after}
-use Rattle.heap_calls.specs.Text.{printed, byNode, isLong}
-use Rattle.heap_calls.proofs.Lines.{shown}
+use Rattle.heap_lines.specs.declared.Command.{Command}
+use Rattle.heap_lines.specs.Command.{commandOf}
+use Rattle.heap_runs.specs.Run.{machine, after}
+use Rattle.heap_runs.specs.Text.{printed, byNode, isLong}
+use Rattle.heap_shown.proofs.Lengths.{shown}
 use Rattle.heap_calls.proofs.reading.run_line.Statement.{statement}
 use Rattle.heap_calls.proofs.reading.run_line.Tie as tie
 

@@ -11,9 +11,9 @@ use Rattle.lines.specs.Running.{Holds}
 use Rattle.lines.specs.declared.Gathered.{Gathered}
 use Rattle.lines.proofs.Gathering.{moves}
 use Rattle.lines.proofs.Going.{Going, begun, over, turn-ended, turn-open}
-use Rattle.heap_calls.specs.Run.{machine, Fits}
+use Rattle.heap_runs.specs.Run.{machine, Fits}
 use Rattle.heap_calls.specs.Running.{lineAfter}
-use Rattle.heap_calls.proofs.Lines.{enough}
+use Rattle.heap_calls.proofs.Enough.{enough}
 use Rattle.heap_calls.proofs.reading.take_all.Statement.{statement}
 use Rattle.heap_calls.proofs.reading.take_all.Tie as tie
 

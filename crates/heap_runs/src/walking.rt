@@ -1,0 +1,65 @@
+// The list of a class, walked from its head.
+ghost use mathlib.Core.Path.{_≡_};
+ghost use lib.ListN.{length, getD};
+ghost use Rattle.heap_state.specs.State.{state};
+ghost use Rattle.linked_list.specs.Links.{nodes};
+ghost use Rattle.heap_runs.specs.Run.{machine, Fits};
+ghost use Rattle.heap_runs.specs.Running.{Does, Lists};
+use crate::Lent;
+use crate::Printed;
+use crate::Ran;
+use answers::Answer;
+use answers::Refusal;
+use heap_lines::Command;
+use heap_state::Heap;
+use linked_list::next;
+
+fn head_of(heap: Heap, class: u64) -> u64
+    ensures { λ r. ⌜ r ≡ getD (heap .heads) class 0 ⌝ }
+{
+    if class < 33 {
+        heap.heads[class as usize]
+    } else {
+        0
+    }
+}
+
+fn count_nodes(head: u64, arena: &[u64]) -> usize
+    ensures { λ r. ⌜ r ≡ length (nodes (length (now (arena .entry))) (now (arena .entry)) head) ⌝ }
+{
+    let mut node = head;
+    let mut count = 0;
+    while count < arena.len() {
+        if node == 0 {
+            return count;
+        }
+        count += 1;
+        node = next(arena, node);
+    }
+    count
+}
+
+fn nodes_of(class: u64, heap: Heap, arena: &[u64], ledger: &[u64]) -> Printed
+    ensures { λ r. ⌜ Lists class (state heap (now (arena .entry)) (now (ledger .entry))) r ⌝ }
+{
+    if !heap_sound::sound(heap, arena, ledger) {
+        return Printed::Reply(Answer::Refused(Refusal::BadState));
+    }
+    let head = head_of(heap, class);
+    Printed::Nodes(head, count_nodes(head, arena))
+}
+
+pub(crate) fn list(class: u64, lent: Lent, arena: &[u64], ledger: &[u64]) -> Ran
+    requires { ⌜ Fits lent (now arena) (now ledger) ⌝ }
+    ensures { λ r. ⌜ Does (Command.List class) (machine lent (now (arena .entry)) (now (ledger .entry))) r (now (arena .entry)) (now (ledger .entry)) ⌝ }
+    ensures { λ r. ⌜ Fits (r .lent) (now (arena .entry)) (now (ledger .entry)) ⌝ }
+{
+    let n = lent.words;
+    let k = lent.records;
+    let heap = lent.heap;
+    let line = nodes_of(class, heap, &arena[..n], &ledger[..k]);
+    Ran {
+        lent: lent,
+        line: line,
+    }
+}
