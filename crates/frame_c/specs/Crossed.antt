@@ -1,14 +1,8 @@
 -- What crosses to C: an answer as its two numbers, and the promise of a call in them.
 use mathlib.Core.List.{List, [], _∷_}
 use Prim.Native.Nat.{ℕ}
-use Rattle.answers.specs.declared.Answer.{Answer}
-use Rattle.answers.specs.Paper.{paper}
+use Rattle.answers.specs.declared.CAnswer.{CAnswer}
 use Rattle.frame_core.specs.Carried.{Reply, Outcome, Says}
-use Rattle.frame_c.specs.declared.CAnswer.{CAnswer}
-
--- the two numbers of an answer
-abbrev pub numbersOf : Answer → CAnswer
-numbersOf a = record { number = paper a .number; value = paper a .value }
 
 -- what C gets, as a reply on paper
 abbrev pub replyOfC : CAnswer → Reply

@@ -2,24 +2,10 @@
 // what C sees of it; nothing larger than 16 bytes crosses by value.
 ghost use mathlib.Core.Path.{_≡_};
 ghost use Rattle.frame.specs.Outcome.{Add, Alloc, AllocAligned, AllocAt, Dealloc, DeallocAligned, Summary, outcome, making};
-ghost use Rattle.frame_c.specs.Crossed.{Crossed, CrossedFigures, numbersOf};
-use answers::Answer;
+ghost use Rattle.frame_c.specs.Crossed.{Crossed, CrossedFigures};
+use answers::CAnswer;
+use answers::numbers;
 use frame::Report;
-
-// An answer as C gets it: 16 bytes, which come back in registers on every machine that we compile for.
-#[repr(C)]
-pub struct CAnswer {
-    pub number: u64,
-    pub value: u64,
-}
-
-fn numbers(answer: Answer) -> CAnswer
-    ensures { λ r. ⌜ r ≡ numbersOf answer ⌝ }
-{
-    let number = answers::number(answer);
-    let value = answers::value(answer);
-    CAnswer { number, value }
-}
 
 #[no_mangle]
 pub extern "C" fn lavikety_frame_new(t: &mut [u64], order: u64) -> CAnswer
