@@ -112,7 +112,7 @@ lavikety_answer lavikety_frame_dealloc_aligned(uint64_t *table, size_t words, ui
 /* Writes the three figures, zeros where refused, and gives the number itself: 0 or 3. */
 uint64_t lavikety_frame_summary(const uint64_t *table, size_t words, uint64_t figures[LAVIKETY_FIGURES]);
 
-/* ---- THE HEAP: target/native/libheap_c.a, by tools/native heap_c. Bytes are granted from an arena of words that the caller lends, under a
+/* ---- THE HEAP: target/native/libheap_held.a, by tools/native heap_held. Bytes are granted from an arena of words that the caller lends, under a
  * record and a ledger that the caller keeps.
  *
  * An address is a byte offset in the arena, and 0 is no address: the first 8 bytes are never granted. Blocks have 8, 16, .. bytes and

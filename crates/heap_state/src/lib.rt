@@ -5,7 +5,9 @@ mod ranges;
 use answers::Answer;
 pub use ranges::ranges_ok;
 
+// As C keeps it, too: 38 words in this order.
 // ORDER, the heads of the 33 lists of free blocks, the number of ledger records, and three counts of bytes.
+#[repr(C)]
 pub struct Heap {
     pub order: u64,
     pub heads: [u64; 33],
