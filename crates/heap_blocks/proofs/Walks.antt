@@ -2,13 +2,14 @@
 use mathlib.Core.Path.{_≡_, refl, sym, ap}
 use mathlib.Core.Bool.{Bool, true, false, _&&_}
 use mathlib.Core.List.{List, [], _∷_, map}
-use Prim.Native.Nat.{ℕ, zero, suc, _+_, _^_, _≤_, _<_}
+use Prim.Native.Nat.{ℕ, zero, suc, _+_, _-_, _^_, _≤_, _<_}
 use native.Mathlib.Omega.{arith}
+use lib.ListN.{length, getD}
 use borrow.Author.Tests.{ne-eqb}
-use Rattle.words.proofs.Tests.{and-false}
+use Rattle.words.proofs.Tests.{both, and-false}
 use Rattle.linked_list.specs.Links.{next}
 use Rattle.linked_list.proofs.Steps.{nodes-end, nodes-step}
-use Rattle.heap_blocks.specs.Sound.{blk, reaches, placedb, bytesOf}
+use Rattle.heap_blocks.specs.Sound.{blk, reaches, listsb, placedb, bytesOf}
 use Rattle.heap_blocks.specs.Parts.{blockb, listBlocks, listb}
 use Rattle.heap_blocks.proofs.Heads.{placed-cons}
 use Rattle.heap_blocks.proofs.Counters.{nodes-bytes}
@@ -20,7 +21,7 @@ pub blocks-step : (k most left : ℕ) (arena : List ℕ) (a : ℕ) → most ≡ 
     listBlocks k most arena a ≡ blk k a ∷ listBlocks k left arena (next arena a)
 blocks-step k most left arena a e q = ap (map (blk k)) (nodes-step most left arena a e q)
 
-reaches-end : (fewer : ℕ) (arena : List ℕ) → reaches fewer arena 0 ≡ true
+pub reaches-end : (fewer : ℕ) (arena : List ℕ) → reaches fewer arena 0 ≡ true
 unfolding reaches
 reaches-end zero arena = refl
 reaches-end (suc fewer) arena = refl
@@ -28,6 +29,12 @@ reaches-end (suc fewer) arena = refl
 reaches-step : (fewer left : ℕ) (arena : List ℕ) (a : ℕ) → fewer ≡ suc left → (a ≡ 0 → ⊥) → reaches fewer arena a ≡ reaches left arena (next arena a)
 unfolding reaches
 reaches-step fewer left arena a e q = rw (e, ne-eqb a 0 q)
+
+-- each head reaches 0, and so does the 0 of a class without a list
+pub lists-fact : (arena heads : List ℕ) → listsb arena heads ≡ true → (j : ℕ) → reaches (length arena - 1) arena (getD heads j 0) ≡ true
+lists-fact arena [] e j = reaches-end (length arena - 1) arena
+lists-fact arena (a ∷ heads) e zero = both (reaches (length arena - 1) arena a) (listsb arena heads) e .0
+lists-fact arena (a ∷ heads) e (suc j) = lists-fact arena heads (both (reaches (length arena - 1) arena a) (listsb arena heads) e .1) j
 
 module _ (bytes k fewer : ℕ) (arena : List ℕ) (a : ℕ) where
   pub list-end : a ≡ 0 → listb bytes k fewer arena a ≡ true

@@ -26,7 +26,8 @@ use Rattle.heap_laws.proofs.Placing.{placed-front}
 use Rattle.heap_laws.proofs.Free.{freeOf, class-within}
 use Rattle.heap_laws.proofs.Managing.{Managed, list-is}
 use Rattle.heap_laws.proofs.Releasing.{fits-of}
-use Rattle.heap_laws.proofs.Tested.{Listed, heads-fact, heads-true, reaches-chain, chain-reaches, lists-fact, lists-true, listed-at, listed-length, free-is}
+use Rattle.heap_blocks.proofs.Walks.{lists-fact}
+use Rattle.heap_laws.proofs.Tested.{Listed, heads-fact, heads-true, reaches-chain, chain-reaches, lists-true, listed-at, listed-length, free-is}
 use Rattle.heap_laws.proofs.PlacedTests.{Classed, nothing, also, classed-append, classed-free, placed-fact, placed-true, disjoint-true}
 use Rattle.heap_laws.proofs.Entries.{blocksOf}
 

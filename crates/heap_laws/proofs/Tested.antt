@@ -13,6 +13,7 @@ use Rattle.linked_list.specs.Links.{next, nodes}
 use Rattle.linked_list.specs.Chains.{Chain}
 use Rattle.heap_state.specs.Lists.{Memory, list}
 use Rattle.heap_blocks.specs.Sound.{Block, blk, headsb, reaches, listsb, freeFrom}
+use Rattle.heap_blocks.proofs.Walks.{reaches-end}
 use Rattle.heap_laws.specs.ListRules.{listsFrom, ofClass}
 use Rattle.heap_laws.proofs.Free.{freeOf}
 
@@ -45,11 +46,6 @@ heads-true order i (a ∷ heads) f =
 
 -- ---- the walks
 
-reaches-null : (fewer : ℕ) (arena : List ℕ) → reaches fewer arena 0 ≡ true
-unfolding reaches
-reaches-null zero arena = refl
-reaches-null (suc fewer) arena = refl
-
 pub reaches-chain : (fewer : ℕ) (arena : List ℕ) (a : ℕ) → reaches fewer arena a ≡ true → Chain arena a (nodes (suc fewer) arena a)
 unfolding reaches Chain nodes
 reaches-chain zero arena zero e = refl
@@ -61,15 +57,10 @@ reaches-chain (suc fewer) arena (suc a) e =
 
 pub chain-reaches : (fewer : ℕ) (arena : List ℕ) (a : ℕ) (xs : List ℕ) → Chain arena a xs → length xs ≤ fewer → reaches fewer arena a ≡ true
 unfolding reaches Chain
-chain-reaches fewer arena a [] c h = let z : a ≡ 0 = c in rw z (reaches-null fewer arena)
+chain-reaches fewer arena a [] c h = let z : a ≡ 0 = c in rw z (reaches-end fewer arena)
 chain-reaches zero arena a (x ∷ xs) c h = absurd (omega arith)
 chain-reaches (suc fewer) arena a (x ∷ xs) c h =
     or-right (eqb a 0) (reaches fewer arena (next arena a)) (chain-reaches fewer arena (next arena a) xs (rw (c .0) (c .2)) (omega arith))
-
-pub lists-fact : (arena heads : List ℕ) → listsb arena heads ≡ true → (j : ℕ) → reaches (length arena - 1) arena (getD heads j 0) ≡ true
-lists-fact arena [] e j = reaches-null (length arena - 1) arena
-lists-fact arena (a ∷ heads) e zero = both (reaches (length arena - 1) arena a) (listsb arena heads) e .0
-lists-fact arena (a ∷ heads) e (suc j) = lists-fact arena heads (both (reaches (length arena - 1) arena a) (listsb arena heads) e .1) j
 
 pub lists-true : (arena heads : List ℕ) → ((j : ℕ) → reaches (length arena - 1) arena (getD heads j 0) ≡ true) → listsb arena heads ≡ true
 lists-true arena [] f = refl
