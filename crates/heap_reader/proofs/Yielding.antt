@@ -1,6 +1,6 @@
 -- What a reader yields: on a sound heap the nodes of its list in order, then nothing, for ever; on any other nothing. Assumes nothing.
-use mathlib.Core.Path.{_≡_, refl, ap, subst}
-use mathlib.Core.Bool.{true, false}
+use mathlib.Core.Path.{_≡_, refl, sym, ap, subst, _∙_}
+use mathlib.Core.Bool.{Bool, true, false}
 use mathlib.Core.List.{List, [], _∷_, _++_}
 use Prim.Native.Nat.{ℕ, zero, suc, _+_, _-_}
 use native.Mathlib.Omega.{arith}
@@ -34,6 +34,17 @@ unfolding stepAt
 node-step arena zero q = absurd (q refl)
 node-step arena (suc a) q = refl
 
+-- where a step yields nothing, and where it yields a node
+pub yields-none : (arena : List ℕ) (at : ℕ) → stepAt arena at 0 .node ≡ 0 → at ≡ 0
+unfolding stepAt
+yields-none arena zero e = refl
+yields-none arena (suc a) e = e
+
+pub yields-node : (arena : List ℕ) (at : ℕ) → (stepAt arena at 0 .node ≡ 0 → ⊥) → (at ≡ 0 → ⊥) × (stepAt arena at 0 .at ≡ next arena at)
+unfolding stepAt
+yields-node arena zero q = absurd (q refl)
+yields-node arena (suc a) q = ((λ z. omega (arith, z)), refl)
+
 -- ---- the start
 
 pub sound-start : (h : Heap) (arena ledger : List ℕ) (class : ℕ) → soundb h arena ledger ≡ true → startOf h arena ledger class ≡ record { node = 0; at = getD (h .heads) class 0; number = 0 }
@@ -43,6 +54,22 @@ sound-start h arena ledger class e = rw (startOf, e) refl
 pub unsound-start : (h : Heap) (arena ledger : List ℕ) (class : ℕ) → soundb h arena ledger ≡ false → startOf h arena ledger class ≡ nothing (numberOf BadState)
 unfolding startOf
 unsound-start h arena ledger class e = rw (startOf, e) refl
+
+-- a reader that is not refused is one of a sound heap
+pub refused-start : (h : Heap) (arena ledger : List ℕ) (class : ℕ) → (startOf h arena ledger class .number ≡ 0 → ⊥) → soundb h arena ledger ≡ false
+refused-start h arena ledger class q = go (soundb h arena ledger) refl
+  where
+    go : (b : Bool) → soundb h arena ledger ≡ b → soundb h arena ledger ≡ false
+    go false e = e
+    go true e = absurd (q (ap (λ (s : Step). s .number) (sound-start h arena ledger class e)))
+
+pub read-start : (h : Heap) (arena ledger : List ℕ) (class : ℕ) → startOf h arena ledger class .number ≡ 0
+    → (soundb h arena ledger ≡ true) × (startOf h arena ledger class .at ≡ getD (h .heads) class 0)
+read-start h arena ledger class n = go (soundb h arena ledger) refl
+  where
+    go : (b : Bool) → soundb h arena ledger ≡ b → (soundb h arena ledger ≡ true) × (startOf h arena ledger class .at ≡ getD (h .heads) class 0)
+    go true e = (e, ap (λ (s : Step). s .at) (sound-start h arena ledger class e))
+    go false e = absurd (let z : 0 ≡ 3 = sym n ∙ ap (λ (s : Step). s .number) (unsound-start h arena ledger class e) in omega arith)
 
 -- ---- turn by turn
 

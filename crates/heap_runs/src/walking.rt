@@ -1,6 +1,6 @@
-// The list of a class, walked from its head.
+// The list of a class, read from its head on.
 ghost use mathlib.Core.Path.{_≡_};
-ghost use lib.ListN.{length, getD};
+ghost use lib.ListN.{length};
 ghost use Rattle.heap_state.specs.State.{state};
 ghost use Rattle.linked_list.specs.Links.{nodes};
 ghost use Rattle.heap_runs.specs.Run.{machine, Fits};
@@ -11,30 +11,22 @@ use crate::Ran;
 use answers::Answer;
 use answers::Refusal;
 use heap_lines::Command;
+use heap_reader::following;
+use heap_reader::start_of;
 use heap_state::Heap;
-use linked_list::next;
-
-fn head_of(heap: Heap, class: u64) -> u64
-    ensures { λ r. ⌜ r ≡ getD (heap .heads) class 0 ⌝ }
-{
-    if class < 33 {
-        heap.heads[class as usize]
-    } else {
-        0
-    }
-}
 
 fn count_nodes(head: u64, arena: &[u64]) -> usize
     ensures { λ r. ⌜ r ≡ length (nodes (length (now (arena .entry))) (now (arena .entry)) head) ⌝ }
 {
-    let mut node = head;
+    let mut at = head;
     let mut count = 0;
     while count < arena.len() {
-        if node == 0 {
+        let step = following(arena, at, 0);
+        if step.node == 0 {
             return count;
         }
         count += 1;
-        node = next(arena, node);
+        at = step.at;
     }
     count
 }
@@ -42,11 +34,11 @@ fn count_nodes(head: u64, arena: &[u64]) -> usize
 fn nodes_of(class: u64, heap: Heap, arena: &[u64], ledger: &[u64]) -> Printed
     ensures { λ r. ⌜ Lists class (state heap (now (arena .entry)) (now (ledger .entry))) r ⌝ }
 {
-    if !heap_sound::sound(heap, arena, ledger) {
+    let start = start_of(heap, arena, ledger, class);
+    if start.number != 0 {
         return Printed::Reply(Answer::Refused(Refusal::BadState));
     }
-    let head = head_of(heap, class);
-    Printed::Nodes(head, count_nodes(head, arena))
+    Printed::Nodes(start.at, count_nodes(start.at, arena))
 }
 
 pub(crate) fn list(class: u64, lent: Lent, arena: &[u64], ledger: &[u64]) -> Ran

@@ -7,8 +7,8 @@ ghost use Rattle.answers.specs.Paper.{paper};
 ghost use Rattle.texts.specs.Put.{Put};
 ghost use Rattle.heap_runs.specs.Text.{replyText, figuresText, lineOf, byNode};
 use answers::Answer;
+use heap_reader::following;
 use heap_runs::Printed;
-use linked_list::next;
 use texts::put;
 use texts::put_number;
 use texts::put_with;
@@ -40,13 +40,13 @@ pub fn put_nodes(head: u64, most: usize, arena: &[u64], out: &mut [u8], at: usiz
     requires { ⌜ 160 ≤ length (now out) ⌝ }
     ensures { λ r. ⌜ r ≤ length (now (out .exit)) ⌝ }
 {
-    let mut node = head;
+    let mut step = following(arena, head, 0);
     let mut left = most;
     let mut to = at;
-    while left > 0 && node != 0 {
+    while left > 0 && step.node != 0 {
         let free = room(out, to);
-        to = put_with(b" ", node, out, free);
-        node = next(arena, node);
+        to = put_with(b" ", step.node, out, free);
+        step = following(arena, step.at, step.number);
         left -= 1;
     }
     let free = room(out, to);

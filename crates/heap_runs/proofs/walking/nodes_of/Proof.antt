@@ -1,22 +1,23 @@
 -- `heap_runs::walking::nodes_of` meets its contract: an unsound heap is refused, and of a sound one the nodes are counted. Assumes nothing.
 use borrow.Author.Needs.{needs}
-use mathlib.Core.Path.{sym, _∙_}
-use borrow.Author.Tests.{not-true, not-false}
+use mathlib.Core.Path.{_≡_, sym, ap, _∙_}
+use native.Mathlib.Omega.{arith}
 use Rattle.heap_state.specs.State.{state}
+use Rattle.heap_reader.specs.Reading.{startOf}
+use Rattle.heap_reader.specs.declared.Step.{Step}
+use Rattle.heap_reader.proofs.Yielding.{refused-start, read-start}
 use Rattle.heap_runs.proofs.Lending.{lists-unsound, lists-sound}
 use Rattle.heap_runs.proofs.walking.nodes_of.Statement.{statement}
 use Rattle.heap_runs.proofs.walking.nodes_of.Tie as tie
 
-sound-requires : tie.Need-sound-requires
-sound-requires c κs = search needs
+start-of-requires : tie.Need-start-of-requires
+start-of-requires c κs = search needs
 
 returns : tie.Need-returns
 returns c =
-    let a = c .before .before .before .before .args in
-    lists-unsound (a .class) (state (a .heap) (a .arena .now) (a .ledger .now)) (sym (c .before .sound .ensures) ∙ not-true _ (c .if1 .taken))
-
-head-of-requires : tie.Need-head-of-requires
-head-of-requires c κs = search needs
+    let a = c .before .before .before .before .before .args in
+    let e = ap (λ (s : Step). s .number) (c .before .before .start-of .ensures) in
+    lists-unsound (a .class) (state (a .heap) (a .arena .now) (a .ledger .now)) (refused-start (a .heap) (a .arena .now) (a .ledger .now) (a .class) (λ z. omega (arith, z, e, c .if1 .taken)))
 
 count-nodes-requires : tie.Need-count-nodes-requires
 count-nodes-requires c κs = search needs
@@ -24,8 +25,10 @@ count-nodes-requires c κs = search needs
 returns-2 : tie.Need-returns-2
 returns-2 c =
     let a = c .before .before .before .before .before .before .args in
-    lists-sound (a .class) (state (a .heap) (a .arena .now) (a .ledger .now)) (c .before .head-of .result) (c .count-nodes .result) (sym (c .before .before .before .sound .ensures) ∙ not-false _ (c .before .before .if1 .left)) (c .before .head-of .ensures) (c .count-nodes .ensures)
+    let s = c .before .before .before .start-of in
+    let n : startOf (a .heap) (a .arena .now) (a .ledger .now) (a .class) .number ≡ 0 = sym (ap (λ (x : Step). x .number) (s .ensures)) ∙ omega (arith, c .before .if1 .left) in
+    let r = read-start (a .heap) (a .arena .now) (a .ledger .now) (a .class) n in
+    lists-sound (a .class) (state (a .heap) (a .arena .now) (a .ledger .now)) (s .result .at) (c .count-nodes .result) (r .0) (ap (λ (x : Step). x .at) (s .ensures) ∙ r .1) (c .count-nodes .ensures)
 
 pub nodes-of-spec : {M : Type 1} → statement M
-nodes-of-spec =
-    tie.close (tie.spec sound-requires returns head-of-requires count-nodes-requires returns-2)
+nodes-of-spec = tie.close (tie.spec start-of-requires returns count-nodes-requires returns-2)

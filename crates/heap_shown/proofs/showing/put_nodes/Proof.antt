@@ -16,6 +16,9 @@ abbrev μ-loop : tie.MeasureT-loop
 loop-holds : tie.Need-loop-holds Inv-loop μ-loop
 loop-holds c = search needs
 
+following-requires : tie.Need-following-requires Inv-loop μ-loop
+following-requires c κs = search needs
+
 room-requires : tie.Need-room-requires Inv-loop μ-loop
 room-requires c κs = search needs
 
@@ -25,8 +28,8 @@ slice-aggregate-put-with c = search needs
 put-with-requires : tie.Need-put-with-requires Inv-loop μ-loop
 put-with-requires c κs = search needs
 
-next-requires : tie.Need-next-requires Inv-loop μ-loop
-next-requires c κs = search needs
+following-requires-2 : tie.Need-following-requires-2 Inv-loop μ-loop
+following-requires-2 c κs = search needs
 
 sub-left : tie.Need-sub-left Inv-loop μ-loop
 sub-left c = search needs
@@ -58,11 +61,12 @@ put-nodes-spec =
     (tie.spec
     Inv-loop
     μ-loop
+    following-requires
     loop-holds
     room-requires
     slice-aggregate-put-with
     put-with-requires
-    next-requires
+    following-requires-2
     sub-left
     loop-less
     loop-again
