@@ -53,6 +53,9 @@
 #include <stddef.h>
 #include <stdint.h>
 
+/* The version of this header and of the library that belongs to it, as in the file VERSION. */
+#define LAVIKETY_VERSION "4.0.0"
+
 #ifdef __cplusplus
 extern "C" {
 #endif
