@@ -13,7 +13,8 @@ use Rattle.heap_state.specs.declared.Reply.{Reply}
 use Rattle.heap_blocks.specs.Sound.{soundb}
 use Rattle.heap_state.specs.State.{state, Says}
 use Rattle.heap_blocks.proofs.Facts.{sound-fact}
-use Rattle.heap_core.specs.Deciding.{refused, done, carried}
+use Rattle.answers.specs.Judging.{refused, done}
+use Rattle.heap_core.specs.Deciding.{carried}
 use Rattle.heap_add.specs.Adding.{adding}
 use Rattle.heap_add.proofs.Adding.{start-outside, end-outside}
 use Rattle.heap.specs.Outcome.{Call, Init, decide, outcome}

@@ -4,7 +4,8 @@ use Prim.Native.Nat.{ℕ, _+_}
 use Rattle.answers.specs.declared.Refusal.the-variants.{BadState}
 use Rattle.heap_state.specs.State.{State, Outcome}
 use Rattle.heap_blocks.specs.Sound.{isSound}
-use Rattle.heap_core.specs.Deciding.{Decision, refused, done, carried}
+use Rattle.answers.specs.Judging.{refused, done}
+use Rattle.heap_core.specs.Deciding.{Decision, carried}
 use Rattle.heap_add.specs.Adding.{adding}
 use Rattle.heap_grant.specs.Granting.{granting}
 use Rattle.heap_release.specs.Releasing.{releasing, zeroing}

@@ -13,11 +13,12 @@ use Rattle.answers.specs.declared.Refusal.the-variants.{BadRange, NullStart, Ov
 use Rattle.heap_state.specs.Lists.{pushAll}
 use Rattle.heap_blocks.specs.Sound.{Block, blk, freeBlocks, grantedBlocks, allBlocks}
 use Rattle.heap_state.specs.State.{State}
-use Rattle.heap_core.specs.Deciding.{Decision, refused, done, refuse, memory, bytes, top}
+use Rattle.answers.specs.Judging.{refused, done, refuse}
+use Rattle.heap_core.specs.Deciding.{Decision, memory, bytes, top}
 use Rattle.heap_add.specs.Adding.{roundUp, roundDown, withLists, adding}
 use Rattle.heap_overlap.specs.Meeting.{meets}
 use Rattle.heap_add.specs.Parts.{addingWords}
-use Rattle.heap_core.proofs.Judging.{judged-yes, judged-no}
+use Rattle.answers.proofs.Judging.{judged-yes, judged-no}
 use Rattle.heap_overlap.proofs.Overlaps.{meets-append}
 use Rattle.heap_moves.proofs.Pushing.{push-end}
 

@@ -9,7 +9,8 @@ use Rattle.heap_state.specs.Lists.{Memory, pushAll}
 use Rattle.heap_blocks.specs.Sound.{allBlocks}
 use Rattle.heap_state.specs.State.{State}
 use Rattle.heap_overlap.specs.Meeting.{meets}
-use Rattle.heap_core.specs.Deciding.{Decision, done, refuse, judge, memory, bytes, top}
+use Rattle.answers.specs.Judging.{done, refuse, judge}
+use Rattle.heap_core.specs.Deciding.{Decision, memory, bytes, top}
 
 abbrev pub roundUp : ℕ → ℕ
 roundUp s = (s + 7) / 8 * 8

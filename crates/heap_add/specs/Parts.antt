@@ -5,7 +5,8 @@ use Rattle.answers.specs.declared.Refusal.the-variants.{Overlap}
 use Rattle.heap_state.specs.Lists.{pushAll}
 use Rattle.heap_blocks.specs.Sound.{allBlocks}
 use Rattle.heap_state.specs.State.{State}
-use Rattle.heap_core.specs.Deciding.{Decision, done, refuse, judge, memory, top}
+use Rattle.answers.specs.Judging.{done, refuse, judge}
+use Rattle.heap_core.specs.Deciding.{Decision, memory, top}
 use Rattle.heap_overlap.specs.Meeting.{meets}
 use Rattle.heap_add.specs.Adding.{withLists}
 

@@ -1,3 +1,3 @@
-pub mod Judging
+pub mod Saying
 pub mod Requests
 pub mod Kept

@@ -1,10 +1,10 @@
 -- How a call decides on a sound heap, and what its decision comes to, from docs/RULES.md, "Refusal numbers" and "The heap over an arena". The
 -- decisions themselves stand beside their code: heap_add/specs/Adding.antt, heap_grant/specs/Granting.antt, heap_release/specs/Releasing.antt.
-use mathlib.Core.Bool.{Bool, true, false}
-use mathlib.Core.List.{List, [], _∷_}
+use mathlib.Core.List.{List}
 use Prim.Native.Nat.{ℕ, _-_, _*_, max}
 use lib.ListN.{length}
-use Rattle.answers.specs.declared.Refusal.{Refusal}
+use Rattle.answers.specs.Judging as judging
+use Rattle.answers.specs.Judging.{refused, done}
 use Rattle.answers.specs.Paper.{numberOf}
 use Rattle.blocks.specs.declared.Rounded.{Rounded}
 use Rattle.blocks.specs.declared.Rounded.the-variants.{Class, Above}
@@ -14,17 +14,8 @@ use Rattle.heap_state.specs.Lists.{Memory}
 use Rattle.heap_state.specs.State.{State, Outcome}
 
 -- what a call decides on a sound heap: a refusal, or a value and the state afterwards
-pub data Decision : Type 0 where
-  refused : Refusal → Decision
-  done : ℕ → State → Decision
-
--- "Checks run in the order of the table": the first test that holds gives its refusal
-pub data Check : Type 0 where
-  refuse : Bool → Refusal → Check
-
-abbrev pub judge : List Check → Decision → Decision
-judge [] d = d
-judge (refuse test r ∷ cs) d = elim test [ true ↦ refused r | false ↦ judge cs d ]
+abbrev pub Decision : Type 0
+Decision = judging.Decision ℕ State
 
 -- ---- the parts of a state
 

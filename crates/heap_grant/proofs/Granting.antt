@@ -23,12 +23,13 @@ use Rattle.heap_blocks.specs.Sound.{isSound}
 use Rattle.heap_blocks.proofs.Facts.{Sound, sound-fact}
 use Rattle.heap_blocks.proofs.Heads.{head-placed}
 use Rattle.heap_blocks.proofs.Counters.{counters-small}
-use Rattle.heap_core.specs.Deciding.{Decision, refused, refuse, judge, memory, classFor, granted, withGrants, carried}
+use Rattle.answers.specs.Judging.{refused, refuse, judge}
+use Rattle.heap_core.specs.Deciding.{Decision, memory, classFor, granted, withGrants, carried}
 use Rattle.heap_grant.specs.Granting.{serving, granting}
 use Rattle.heap_moves.specs.Moves.{mem, Servable, TakenOut}
 use Rattle.heap_grant.specs.Parts.{Grantable, grantDone}
 use Rattle.heap_core.proofs.Kept.{kept, grantedHeap}
-use Rattle.heap_core.proofs.Judging.{judged-yes, judged-no}
+use Rattle.answers.proofs.Judging.{judged-yes, judged-no}
 use Rattle.heap_moves.proofs.Halving.{halved-head}
 use Rattle.heap_core.proofs.Requests.{class-word, class-holds}
 use Rattle.heap_grant.proofs.Serving.{first-same, Serves, found-serves}

@@ -9,7 +9,8 @@ use Rattle.blocks.specs.Blocks.{isPowerOfTwo}
 use Rattle.ledger.specs.Ledger.{grant, enter}
 use Rattle.heap_state.specs.Lists.{head, pop, firstClass, splitDown}
 use Rattle.heap_state.specs.State.{State}
-use Rattle.heap_core.specs.Deciding.{Decision, done, refuse, judge, memory, granted, classFor, withGrants}
+use Rattle.answers.specs.Judging.{done, refuse, judge}
+use Rattle.heap_core.specs.Deciding.{Decision, memory, granted, classFor, withGrants}
 
 -- the class that serves class k: the first with a block, from k to ORDER - 1
 abbrev pub serving : ℕ → State → ℕ

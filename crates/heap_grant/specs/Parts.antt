@@ -7,7 +7,8 @@ use Rattle.ledger.specs.Ledger.{grant, enter}
 use Rattle.heap_state.specs.Lists.{head, pop, splitDown}
 use Rattle.heap_state.specs.State.{State}
 use Rattle.heap_blocks.specs.Sound.{isSound}
-use Rattle.heap_core.specs.Deciding.{Decision, done, memory, granted, withGrants}
+use Rattle.answers.specs.Judging.{done}
+use Rattle.heap_core.specs.Deciding.{Decision, memory, granted, withGrants}
 
 pub record Grantable (st : State) (from class size : ℕ) : Type 0 where
   pub sound : isSound st ≡ true

@@ -14,7 +14,8 @@ use Rattle.heap_state.specs.Lists.{Memory}
 use Rattle.heap_blocks.specs.Sound.{Block, bytesOf, requests}
 use Rattle.heap_state.specs.State.{State}
 use Rattle.heap_blocks.proofs.Facts.{Sound, sound-fact}
-use Rattle.heap_core.specs.Deciding.{Decision, refused, done, granted, withGrants}
+use Rattle.answers.specs.Judging.{refused, done}
+use Rattle.heap_core.specs.Deciding.{Decision, granted, withGrants}
 use Rattle.heap_add.specs.Adding.{withLists}
 use Rattle.heap_laws.specs.Claims.{Healthy, Follows}
 use Rattle.heap_laws.proofs.Managing.{Managed}

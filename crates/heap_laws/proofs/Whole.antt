@@ -9,7 +9,8 @@ use Rattle.answers.specs.declared.Refusal.the-variants.{BadOrder, BadSize, BadS
 use Rattle.answers.specs.Paper.{numberOf}
 use Rattle.heap_state.specs.State.{State, state}
 use Rattle.heap_blocks.specs.Sound.{isSound}
-use Rattle.heap_core.specs.Deciding.{Decision, refused, done, carried}
+use Rattle.answers.specs.Judging.{refused, done}
+use Rattle.heap_core.specs.Deciding.{Decision, carried}
 use Rattle.heap.specs.Outcome.{Call, Init, AddToHeap, Alloc, Dealloc, ZeroFill, StatsAllocUser, StatsAllocActual, StatsTotalBytes, decide, outcome}
 use Rattle.heap_laws.specs.Claims.{Healthy, Follows, valueAfter, listsAfter}
 use Rattle.heap_laws.proofs.Keeping.{Right, refuses, does}

@@ -25,10 +25,12 @@ use Rattle.heap_blocks.specs.Sound.{blockOf, placedb, bytesOf, requests, freeBl
 use Rattle.heap_state.specs.State.{State, Says}
 use Rattle.heap_blocks.proofs.Facts.{Sound}
 use Rattle.heap_blocks.proofs.Heads.{Placed, placed-fact, placed-parts}
-use Rattle.heap_core.specs.Deciding.{Decision, refused, done, refuse, judge, memory, top, classFor, granted, withGrants, carried}
+use Rattle.answers.specs.Judging.{refused, done, refuse, judge}
+use Rattle.heap_core.specs.Deciding.{Decision, memory, top, classFor, granted, withGrants, carried}
 use Rattle.heap_release.specs.Releasing.{notGranted, releasing, zeroing}
 use Rattle.heap_moves.specs.Moves.{mem, released}
-use Rattle.heap_core.proofs.Judging.{judged-yes, judged-no, says-done}
+use Rattle.answers.proofs.Judging.{judged-yes, judged-no}
+use Rattle.heap_core.proofs.Saying.{says-done}
 use Rattle.heap_core.proofs.Kept.{kept, grantedHeap}
 
 -- ---- a record that was found

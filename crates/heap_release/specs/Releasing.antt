@@ -8,7 +8,8 @@ use Rattle.blocks.specs.Blocks.{isPowerOfTwo}
 use Rattle.ledger.specs.Ledger.{same, strike, some}
 use Rattle.heap_state.specs.Lists.{release}
 use Rattle.heap_state.specs.State.{State}
-use Rattle.heap_core.specs.Deciding.{Decision, done, refuse, judge, memory, top, granted, classFor, withGrants}
+use Rattle.answers.specs.Judging.{done, refuse, judge}
+use Rattle.heap_core.specs.Deciding.{Decision, memory, top, granted, classFor, withGrants}
 
 -- "no granted block has that start and rounded size (heap: also requested bytes)"
 abbrev pub notGranted : ℕ → ℕ → ℕ → State → Bool

@@ -4,7 +4,7 @@ use native.Mathlib.Omega.{arith}
 use denote.Ref.{now}
 use Rattle.heap_state.specs.State.{state, Says}
 use Rattle.heap_core.specs.Deciding.{Decision, carried}
-use Rattle.heap_core.proofs.Judging.{says-refused, says-done}
+use Rattle.heap_core.proofs.Saying.{says-refused, says-done}
 use Rattle.heap_add.proofs.Adding.{start-outside, end-outside, backward, none-added, from-null, some-words}
 use borrow.Author.Needs.{needs}
 use Rattle.heap_add.proofs.add.add_range.Statement.{statement}

@@ -8,7 +8,7 @@ use Rattle.heap_state.specs.State.{state}
 use Rattle.heap_blocks.proofs.Facts.{sound-fact}
 use Rattle.heap_blocks.proofs.Counters.{counters-small}
 use Rattle.heap_add.specs.Adding.{withLists}
-use Rattle.heap_core.proofs.Judging.{says-refused, says-done}
+use Rattle.heap_core.proofs.Saying.{says-refused, says-done}
 use Rattle.heap_add.proofs.Adding.{free-there, granted-there, words-added}
 use borrow.Author.Needs.{needs}
 use Rattle.heap_add.proofs.add.add_words.Statement.{statement}

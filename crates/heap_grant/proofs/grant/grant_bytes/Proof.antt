@@ -6,7 +6,7 @@ use borrow.Author.Tests.{not-true, not-false}
 use Rattle.heap_state.specs.State.{state, Says}
 use Rattle.heap_blocks.proofs.Facts.{sound-fact}
 use Rattle.heap_core.specs.Deciding.{Decision, carried}
-use Rattle.heap_core.proofs.Judging.{says-refused}
+use Rattle.heap_core.proofs.Saying.{says-refused}
 use Rattle.heap_grant.proofs.Granting.{chosen, badly-aligned, too-large, none-serves, ledger-full, as-chosen, chosen-given}
 use borrow.Author.Needs.{needs}
 use Rattle.heap_grant.proofs.grant.grant_bytes.Statement.{statement}

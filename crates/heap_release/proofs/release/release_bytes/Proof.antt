@@ -7,7 +7,7 @@ use Rattle.blocks.proofs.Rounding.{size-is}
 use Rattle.heap_state.specs.State.{state}
 use Rattle.heap_blocks.proofs.Facts.{sound-fact}
 use Rattle.heap_blocks.proofs.Counters.{sums}
-use Rattle.heap_core.proofs.Judging.{says-refused}
+use Rattle.heap_core.proofs.Saying.{says-refused}
 use Rattle.heap_core.proofs.Kept.{kept}
 use Rattle.heap_release.proofs.Releasing.{release-is, badly-aligned, not-there, recorded-in, index-in, release-says}
 use borrow.Author.Needs.{needs}

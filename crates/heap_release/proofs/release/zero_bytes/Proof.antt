@@ -5,7 +5,7 @@ use denote.Ref.{now}
 use borrow.Author.Tests.{not-true, not-false}
 use Rattle.heap_state.specs.State.{state}
 use Rattle.heap_blocks.proofs.Facts.{sound-fact}
-use Rattle.heap_core.proofs.Judging.{says-refused}
+use Rattle.heap_core.proofs.Saying.{says-refused}
 use Rattle.heap_core.proofs.Kept.{kept}
 use Rattle.heap_release.proofs.Releasing.{zero-is, badly-aligned, not-there, recorded-in, part-in, zero-says}
 use borrow.Author.Needs.{needs}
