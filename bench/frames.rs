@@ -1,5 +1,6 @@
 //! Times of the proved calls, of the same soundness test in Rust, and of the real crate's calls, as ratios taken in one run.
 
+mod data;
 mod soundness;
 
 use buddy_system_allocator::FrameAllocator;
@@ -127,6 +128,7 @@ fn row(words: usize, records: usize) {
     let fastest = (0..4).min_by(|&a, &b| shapes[a].total_cmp(&shapes[b])).unwrap();
     let (sound, pair, pair_at, real_pair, real_at) = (times[0], times[1], times[2], times[3], times[4]);
     let scalar = shapes[1];
+    data::note("frame", &[words as f64, records as f64, sound, shapes[fastest], scalar, pair / 2.0, real_pair / 2.0, pair_at / 2.0, real_at / 2.0]);
     println!(
         "{words:6} {records:7}  {sound:8.0} {:5.2} {:<18} {:5.2}  {:8.0} {:5.2} {:7.2}  {:8.0} {:5.2} {:7.2}",
         sound / shapes[fastest],

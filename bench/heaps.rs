@@ -1,5 +1,6 @@
 //! Times of the proved heap's calls, of the same soundness test in Rust, and of the real crate's calls, as ratios taken in one run.
 
+mod data;
 mod heap_soundness;
 
 use heap_soundness::Heap;
@@ -140,6 +141,7 @@ fn row(count: usize) {
     ]);
     assert!((w.record, w.arena, w.ledger) == copy, "a grant and its release leave the heap as it was");
     let (sound, rust, pair, real_pair) = (times[0], times[1], times[2], times[3]);
+    data::note("heap", &[count as f64, sound, rust, pair / 2.0, real_pair / 2.0]);
     println!(
         "{count:7}  {sound:10.0} {rust:10.0} {:6.2}  {:10.0} {:6.2} {:10.0} {:9.0}",
         sound / rust,
