@@ -120,15 +120,16 @@ uint64_t lavikety_frame_summary(const uint64_t *table, size_t words, uint64_t fi
  *
  * An address is a byte offset in the arena, and 0 is no address: the first 8 bytes are never granted. Blocks have 8, 16, .. bytes and
  * start at a multiple of their size; ORDER, 4 to 33, is chosen when a heap is made, and the largest block has 2^(ORDER-1) bytes. A
- * request is rounded up to the larger of its size, its alignment and 8. THE ARENA is 2 to 1,048,576 words; a free block's first word holds
- * the address of the next free block of its class, and the library touches no other word but to clear it (lavikety_heap_zero). What
- * stands in a granted block is its holder's. THE LEDGER is 1 to 65,535 words, one for each granted block. THE RECORD is a
- * lavikety_heap; you may read it, copy it and move it with arena and ledger, and what you write into any of them is tested at the
- * next call. Every call answers for every content of them, as the frame calls do, and a refused call changes no word of any of the
- * three; a refused making keeps the record's words too.
+ * request gets a block of the least size that is not below its size, its alignment and 8. THE ARENA is 2 to 1,048,576 words; a free
+ * block's first word holds the address of the next free block of its class, and the library touches no other word but to clear it
+ * (lavikety_heap_zero). What stands in a granted block is its holder's. THE LEDGER is 1 to 65,535 words, one for each granted block.
+ * THE RECORD is a lavikety_heap; you may read it, copy it and move it with arena and ledger, and what you write into any of them is
+ * tested at the next call. Every call answers for every content of them, as the frame calls do, and a refused call, a making too,
+ * changes no word of any of the three.
  *
  * WHAT YOU MUST SEE TO, as for a table, and:
- *   - record, arena and ledger do not overlap, and each is 8-byte aligned and can be read and written.
+ *   - record, arena and ledger do not overlap, and each is 8-byte aligned and can be read and, where it is not const, written. The record
+ *     is not null.
  *   - `arena_words` and `ledger_words` are the same for a heap from its making on.
  *   - to be aligned in memory as in the arena, `arena` stands at a multiple of the largest alignment that you ask for.
  *
@@ -172,7 +173,8 @@ lavikety_answer lavikety_heap_add(lavikety_heap *heap, uint64_t *arena, size_t a
 /* Grants `size` bytes at a multiple of `align`, rounded up; the value is the address. Numbers 3, 7, 9, 11. */
 lavikety_answer lavikety_heap_alloc(lavikety_heap *heap, uint64_t *arena, size_t arena_words, uint64_t *ledger, size_t ledger_words, uint64_t size, uint64_t align);
 
-/* Releases the block granted at the address for this size and alignment; the value counts the nodes looked at. Numbers 3, 7, 10. */
+/* Releases the block granted at the address for this size and alignment; the value is how many free blocks, this one too, were compared
+ * with the buddy that it could be joined with, class by class. Numbers 3, 7, 10. */
 lavikety_answer lavikety_heap_dealloc(lavikety_heap *heap, uint64_t *arena, size_t arena_words, uint64_t *ledger, size_t ledger_words, uint64_t address, uint64_t size, uint64_t align);
 
 /* Clears the words of the `size` bytes of the block granted at the address for this size and alignment. Numbers 3, 7, 10. */
