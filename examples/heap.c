@@ -1,4 +1,10 @@
-/* A heap of bytes over words of our own: the meter keeps two readings of different sizes, and gives one of them back. */
+/* A heap of bytes over words of our own: the meter keeps two readings of different sizes, and gives one of them back. From the
+ * repository's top:
+ *
+ *     tools/native heap_held
+ *     cc -std=c99 -Wall -Wextra -Iinclude -o target/heap_example examples/heap.c target/native/libheap_held.a
+ *     target/heap_example
+ */
 #include <inttypes.h>
 #include <stdio.h>
 #include <string.h>
