@@ -1,6 +1,6 @@
 /* The memory of a demand meter: two channels with sliding windows. The samples of an interval stand in frames that the frame table grants, and
- * what is known of the interval in a note that the heap grants; as an interval leaves the window, both are given back. Every release is
- * first made with a wrong count, as a faulty meter once did: it is refused, and no word changes.
+ * what is known of the interval in a note that the heap grants; as an interval leaves the window, both are given back, first with a
+ * wrong count, as a faulty meter once did: that is refused, and no word changes.
  *
  * To build it: tools/native frame_c && tools/native heap_held, then
  *     cc -std=c99 -Iinclude -o meter examples/firmware/main.c target/native/libframe_c.a target/native/libheap_held.a */
@@ -21,7 +21,7 @@ enum {
     HEAP_ORDER = 11
 };
 
-/* What is known of an interval: where its samples stand, and how many there are. */
+/* What is known of an interval: where its samples stand, how many there are, and their sum. */
 typedef struct note {
     uint64_t start;
     uint64_t samples;
@@ -87,30 +87,37 @@ static void forget_oldest(uint32_t channel) {
 }
 
 static void take_interval(uint32_t channel, uint32_t interval) {
-    note n = {0, 0, 0};
     uint64_t address;
+    note n;
     uint32_t i;
 
-    n.samples = samples_of(channel);
-    n.start = must("samples", lavikety_frame_alloc(table, TABLE, frames_of(n.samples)));
     address = must("a note", lavikety_heap_alloc(&heap, arena, ARENA, ledger, LEDGER, sizeof n, 8));
     must("a clean note", lavikety_heap_zero(&heap, arena, ARENA, ledger, LEDGER, address, sizeof n, 8));
+    n = note_at(address);
+    n.samples = samples_of(channel);
+    n.start = must("samples", lavikety_frame_alloc(table, TABLE, frames_of(n.samples)));
     for (i = 0; i < n.samples; i++) {
         memory[n.start * FRAME + i] = sample(channel, interval, i);
+        n.sum += memory[n.start * FRAME + i];
     }
     memcpy(&arena[address / 8], &n, sizeof n);
     window[channel][filled[channel]++] = address;
 }
 
-/* The demand: every sample of the window, from the memory where it stands. */
+/* The demand: every sample of the window, from the memory where it stands. The notes must say the same. */
 static uint64_t demand(uint32_t channel) {
-    uint64_t sum = 0, i;
+    uint64_t sum = 0, noted = 0, i;
     uint32_t w;
     for (w = 0; w < filled[channel]; w++) {
         note n = note_at(window[channel][w]);
+        noted += n.sum;
         for (i = 0; i < n.samples; i++) {
             sum += memory[n.start * FRAME + i];
         }
+    }
+    if (sum != noted) {
+        fprintf(stderr, "meter: samples or notes were overwritten\n");
+        exit(1);
     }
     return sum;
 }

@@ -1,5 +1,5 @@
-/* The plain reference of examples/firmware/main.c: the same sums and the same report, from arrays that hold every sample and no memory that
- * is granted. What it prints is examples/firmware/expected.out. */
+/* The plain reference of examples/firmware/main.c: the same sums and the same report, from an array of every interval's sum; no memory is
+ * granted or given back. What it prints is examples/firmware/expected.out. */
 #include <inttypes.h>
 #include <stdio.h>
 
