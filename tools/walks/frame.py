@@ -62,6 +62,7 @@ class Context:
         self.steps.append("\n        ")
 
     def front(self, *names):
+        """Brings these to the front, in this order."""
         places = [self.at(name) for name in names]
         if places != list(range(len(places))):
             self.say(f"move ! ({lines(places)})")
@@ -92,11 +93,11 @@ class Parameters:
         self.lives = [self.life[p.name] for p in self.slices]
         self.shares = [self.share[p.name] for p in self.slices]
 
-    def type_of(self, p, place=None):
+    def type_of(self, p):
         if p.kind == "number":
             return "u64"
         former = "MutSlice" if p.kind == "mut" else "ShrSlice"
-        return f"{former} (named {self.place[p.name] if place is None else place}) {self.life[p.name]} {p.element}"
+        return f"{former} (named {self.place[p.name]}) {self.life[p.name]} {p.element}"
 
     def types(self):
         return lines(self.type_of(p) for p in self.all)

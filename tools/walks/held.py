@@ -24,7 +24,7 @@ class Function:
     path: str
     params: list = field(default_factory=list)  # what stands after the record or the reader
     core: Optional[Named] = None  # the function that is called
-    said: str = ""  # what it promises, of its result r, the record h, slices X .now before and z-X after
+    said: str = ""  # what it promises, of its result r, the record h (z after a lending) or the reader d, and slices X .now before and z-X after
     uses: tuple = ()  # what that names
     record: Optional[Named] = None
     result: Optional[Named] = None

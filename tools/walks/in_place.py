@@ -4,7 +4,7 @@
 
 CORE is proved, takes the record by value and the same P.. in the same order, and returns a struct of numbers and the record. The record's borrow
 is opened and stays open across the call; a `&mut` slice goes to CORE for good, of a `&` slice a copy goes."""
-from frame import INTO, READ, READ_FIELD, Context, Parameters, dashed, lend_again, lines, nested, nth, operands
+from frame import INTO, READ, READ_FIELD, Context, Parameters, lend_again, lines, nested, nth, operands
 from names import Names, USES, closing
 
 KIND = "The record's borrow is opened and stays open across the call: the record is copied out of its cell, and the record that is left is stored into the cell, where the borrow is closed."
@@ -95,7 +95,7 @@ def proof(f):
     n.pay(w, p, kept)
     arguments = [copied] + [lent[x.name][1] if x.kind == "mut" else p.local[x.name] for x in p.all]
     w.bind(f"calls-at ! fm (Core 𝓤 H A at-mem run) known to {operands([READ % w.at(a) for a in arguments])} (λ w.")
-    n.learn(w, f, p, tokens, core_lives)
+    n.learn(w, p, tokens, core_lives)
     w.say("land ! " + INTO % (w.at(got), "(LL.lawful G.the-type G′.the-laws 𝓤 H A W .typed r _ is .0)"))
     w.say(f"rewrite ! {w.at(got)} (λ (u : Val). ‵ (fat fullShare G′.mir l{count + 3} 0 u)) (ap only (LL.tells G.the-type G′.the-laws r (w ∷ []) is)) refl")
     w.line()

@@ -3,7 +3,7 @@
     fn F(heap: &RECORD, P..) -> RESULT { let h = *heap; CORE(h, P..) }
 
 Each P is a `&` slice or a number; RESULT is a struct of plain data. The shared borrow is looked into for the copy, and shut before the call."""
-from frame import INTO, READ, Context, Parameters, lines, nested, nth, operands
+from frame import INTO, READ, Context, Parameters, lines, nested, operands
 from names import USES, Names, closing
 
 KIND = "The shared borrow of the record is looked into, the record is copied out, and the borrow is shut before the call."

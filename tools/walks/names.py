@@ -1,5 +1,8 @@
-"""What every walk's file has: its head, the names it brings in, the statements it cites, and its closing theorems."""
-from frame import Context, dashed, lines, nested, nth
+"""What every walk's file has: its head, the names it brings in, the statements it cites, and its closing theorems.
+
+In a walk Rec, Res, Ans, Reader and Step are the record, the result of the function that is called, the answer, the reader and its step; the rows and laws of
+their types are T, G, S, R and S, with a prime for the laws."""
+from frame import Context, dashed, nested, nth
 
 COMMON = """use mathlib.Core.Path.{_≡_, refl, ap}
 use Prim.Native.Nat.{ℕ, _<_, _^_}
@@ -159,7 +162,7 @@ class Names:
     def known(self):
         return f"  module _ (C : Calls 𝓤 H) (Λ : Loops 𝓤 H) (fm : FmC 𝓤 H (W .laws) C) (known : Triple 𝓤 (C {self.core_key}) (Core 𝓤 H A at-mem run)) where"
 
-    def learn(self, w, f, p, tokens, lives):
+    def learn(self, w, p, tokens, lives):
         """After the call: the tokens come back, the result is had with its facts, and of each `&mut` slice its last list."""
         w.say(f"use1 W (later (some (λ (r : Res). (({tokens}) ⊛ ‵ (G.the-row .own r (w ∷ []))) ⊛ raw (ensured 𝓤 H A callee.ended (callee.clauses 𝓤 H A at-mem run) {lives} passed tt r)))) (id⊢ 𝓤 _) $ await ! tt")
         w.become(1, "returned")
@@ -266,7 +269,7 @@ class Names:
         g.say("owned ! T.the-row (Is T.the-row) (LL.makes T.the-type T′.the-plain 𝓤 H A) h _ g $ fjoin !")
         g.front("tokens", "rest", *["kept-" + x.name for x in p.shared])
         g.say("use2 W (raw (Core 𝓤 H A at-mem run .pre to)) asked")
-        for i in range(len(p.shared)):
+        for _ in p.shared:
             g.say("frame !")
         return f"""  goes : Is T.the-row h (mach h ∷ []) → ent 𝓤 (⋆ 𝓤 H A (({tokens}) ∷ ‵ rest ∷ [])) (⋆ 𝓤 H A (({kept}) ∷ []))
   goes g = qed W (({tokens}) ∷ ‵ rest ∷ []) ∵ {g.text('done !')}

@@ -260,7 +260,7 @@ def take_apart(w, f, first):
     w.bind(f"calls-at ! fm (Core 𝓤 H A at-mem run) known to {operands([READ % w.at(f'_{first + i}') for i in range(len(f.reader.fields))])} (λ u.")
 
 
-def reader_closing(f, n, w, last):
+def reader_closing(n, w, last):
     laws = "(R.the-type (namedLft 1 0 tt κs)) (R′.the-laws (namedLft 1 0 tt κs))"
     text = n.known()
     text += f"\n    walk : Holds (hasTy (R′.mir (named 0)) mach) × WT mach → ent 𝓤 (onEntry 𝓤 H A self.signature (κ₁, tt) (q₁, tt) (d, tt) (mach ∷ [], tt)) (WpFn 𝓤 H C Λ code.function (mach ∷ []) Post)"
@@ -289,7 +289,7 @@ def stepping(f):
     w.say("land ! " + INTO % (w.at("_0"), STEP_TYPED))
     n.leave(w, total)
     w.say(f"keep ! ({lines(w.at(x) for x in ['result', 'tokens', 'own'])})")
-    say(reader_closing(f, n, w, "by ! (exits r u e)"))
+    say(reader_closing(n, w, "by ! (exits r u e)"))
     return "\n".join(out)
 
 
@@ -333,7 +333,7 @@ def going_on(f):
     w.line()
     n.leave(w, total)
     w.say(f"keep ! ({lines(w.at(x) for x in ['tokens', 'own'])})")
-    say(reader_closing(f, n, w, "by ! (exits r" + "".join(f" ({x}-fits-r r u is)" for x in numbers) + " e)"))
+    say(reader_closing(n, w, "by ! (exits r" + "".join(f" ({x}-fits-r r u is)" for x in numbers) + " e)"))
     return "\n".join(out)
 
 
