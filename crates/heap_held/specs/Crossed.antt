@@ -12,7 +12,7 @@ pub record Crossed (o : Outcome) (number value : ℕ) (heap : Heap) (arena ledge
   pub value-is : value ≡ o .value
   pub state-is : state heap arena ledger ≡ o .state
 
--- "Made in place, a refused making keeps the record's words": number 0 alone is a heap that was made
+-- "Made in place, a refused making keeps the record's words" (docs/DECISIONS.md): number 0 alone is a heap that was made
 abbrev pub keptUnless : ℕ → Heap → Heap → Heap
 keptUnless zero kept made = made
 keptUnless (suc n) kept made = kept

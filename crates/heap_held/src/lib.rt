@@ -1,5 +1,5 @@
 // The heap with its record held in place, as the Rust's `&mut self` holds it, for C and for whoever keeps the record in its own memory: each
-// function takes the record apart, calls the by-value core and stores the record back. include/lavikety.h is what C sees of it.
+// function copies the record out, calls the by-value core and stores the record that is left. include/lavikety.h is what C sees of it.
 mod adding;
 mod granting;
 mod making;
