@@ -109,5 +109,5 @@ def reading(name, core, said, params=(), record=None):
 
 OPENING = [reading("open", "plain.start_of", "startOf h (now arena) (now ledger) class", lent("shared", "shared", "class"), RECORD)]
 STEPPING = [reading("next", "plain.step_at", "stepAt (now (d .arena)) (d .at) (d .number)")]
-GOING_ON = [reading("advance", "plain.step_at", "stepAt (now (d .arena)) (d .at) (d .number)")]
+ADVANCING = [reading("advance", "plain.step_at", "stepAt (now (d .arena)) (d .at) (d .number)")]
 FOLLOWING = [reading("following", "reading.next", "stepAt (now arena) at number", [Slice("shared", "arena"), Number("at"), Number("number")])]

@@ -5,7 +5,8 @@
 CORE is proved, takes the record by value and the same P.. in the same order, and returns a struct of numbers and the record. The record's borrow
 is opened and stays open across the call; a `&mut` slice goes to CORE for good, of a `&` slice a copy goes."""
 from frame import INTO, READ, READ_FIELD, Context, Parameters, lend_again, lines, nested, nth, operands
-from names import Names, USES, closing
+from names import Names, closing
+from uses import USES
 
 KIND = "The record's borrow is opened and stays open across the call: the record is copied out of its cell, and the record that is left is stored into the cell, where the borrow is closed."
 

@@ -4,7 +4,8 @@
 
 CORE holds the record in place. The local is lent for a lifetime that is made for the call, and taken back at its last value."""
 from frame import INTO, READ, READ_FIELD, Context, Parameters, lend_again, lines, nested, nth, operands
-from names import USES, Names, closing
+from names import Names, closing
+from uses import USES
 
 KIND = "The record is held in a local, which is lent for a lifetime that is made for the call, and taken back at its last value."
 

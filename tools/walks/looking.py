@@ -4,7 +4,8 @@
 
 Each P is a `&` slice or a number; RESULT is a struct of plain data. The shared borrow is looked into for the copy, and shut before the call."""
 from frame import INTO, READ, Context, Parameters, lines, nested, operands
-from names import USES, Names, closing
+from names import Names, closing
+from uses import USES
 
 KIND = "The shared borrow of the record is looked into, the record is copied out, and the borrow is shut before the call."
 
