@@ -44,8 +44,9 @@
  *         lavikety_frame_dealloc(table, 64, got.value, 5);
  *     }
  *
- * examples/frames.c is a whole program. To build the library for the machine at hand: tools/native frame_c, then link
- * target/native/libframe_c.a. At link time it needs memset and nothing else.
+ * examples/frames.c is a whole program. TO LINK: liblavikety.a, beside which this header is shipped, has all of it but the numbers of blocks at
+ * the end (tools/dist writes it, for x86-64); or, for the machine at hand, tools/native frame_c and target/native/libframe_c.a. At link time the
+ * frame calls need memset and nothing else.
  */
 #ifndef LAVIKETY_H
 #define LAVIKETY_H
