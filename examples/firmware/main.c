@@ -140,7 +140,7 @@ int main(void) {
             printf("interval %" PRIu32 " channel %" PRIu32 " demand %" PRIu64 "\n", interval, channel, demand(channel));
         }
     }
-    printf("wrong releases refused: %" PRIu64 ", words that changed: %" PRIu64 "\n", refused, changed);
+    printf("wrong releases refused: %" PRIu64 ", times that a word changed: %" PRIu64 "\n", refused, changed);
     for (channel = 0; channel < CHANNELS; channel++) {
         while (filled[channel] > 0) {
             forget_oldest(channel);

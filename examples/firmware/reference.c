@@ -25,7 +25,7 @@ int main(void) {
             wrong += interval >= WINDOW ? 2 : 0;
         }
     }
-    printf("wrong releases refused: %" PRIu64 ", words that changed: 0\n", wrong);
+    printf("wrong releases refused: %" PRIu64 ", times that a word changed: 0\n", wrong);
     printf("left: 0 frames, 0 bytes\n");
     return 0;
 }

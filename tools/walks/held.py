@@ -31,6 +31,8 @@ class Function:
     answer: Optional[Named] = None
     reader: Optional[Named] = None
     step: Optional[Named] = None
+    then: Optional[Named] = None  # a second function that is called, and what it promises of the reader r
+    step_said: str = ""
     element: str = "u64"  # of the reader's slice
     call: str = ""  # a covered function's own call
     inner: tuple = ()  # what makes numbers of it, and the law of that
@@ -111,3 +113,7 @@ OPENING = [reading("open", "plain.start_of", "startOf h (now arena) (now ledger)
 STEPPING = [reading("next", "plain.step_at", "stepAt (now (d .arena)) (d .at) (d .number)")]
 ADVANCING = [reading("advance", "plain.step_at", "stepAt (now (d .arena)) (d .at) (d .number)")]
 FOLLOWING = [reading("following", "reading.next", "stepAt (now arena) at number", [Slice("shared", "arena"), Number("at"), Number("number")])]
+FIRST = [reading("first", "reading.open", "startOf h (now arena) (now ledger) class", lent("shared", "shared", "class"), RECORD)]
+for first in FIRST:
+    first.said, first.then, first.step_said = "startOf h (now arena) (now ledger) class", Named("heap_reader", "reading.next"), "stepAt (now (r .arena)) (r .at) (r .number)"
+    first.uses = ("Rattle.heap_reader.specs.Reading.{startOf, stepAt}",)

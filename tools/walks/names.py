@@ -64,11 +64,19 @@ class Names(Steps):
         return f"  module _ (C : Calls 𝓤 H) (Λ : Loops 𝓤 H) (fm : FmC 𝓤 H (W .laws) C) (known : Triple 𝓤 (C {self.core_key}) (Core 𝓤 H A at-mem run)) where"
 
 
-def closing(n, lives, vals, tells, call, goes):
-    """From the walk to the theorem."""
+def closing(n, lives, vals, tells, call, goes, then=None):
+    """From the walk to the theorem; `then` is the key and the name of a second function that is called."""
+    also = also_known = also_name = also_cited = ""
+    if then:
+        key, function = then
+        also = f" → Triple 𝓤 (C {key}) (Then 𝓤 H A at-mem run)"
+        also_known = f" → Triple 𝓤 (𝓣 .C {key}) (Then 𝓤 H A at-mem run)"
+        also_name = " then-known"
+        also_cited = f"""
+    (cited 𝓤 H (Then 𝓤 H (𝓖 .A) (𝓜 .mem) (𝓡 .run)) 𝓜 𝓡 code.env {key} after-def.routine code.calls-{key[1:]} (after-thm.met 𝓤 H 𝓜 𝓖 𝓡))"""
     return f"""{n.module('')}
-  self-walks : (C : Calls 𝓤 H) (Λ : Loops 𝓤 H) → FmC 𝓤 H (W .laws) C → Triple 𝓤 (C {n.core_key}) (Core 𝓤 H A at-mem run) → Walks 𝓤 H A self.ended stayed (WpFn 𝓤 H C Λ code.function) (self.clauses 𝓤 H A at-mem run)
-  self-walks C Λ fm known = walked 𝓤 H A self.ended stayed (self.clauses 𝓤 H A at-mem run) (WpFn 𝓤 H C Λ code.function)
+  self-walks : (C : Calls 𝓤 H) (Λ : Loops 𝓤 H) → FmC 𝓤 H (W .laws) C → Triple 𝓤 (C {n.core_key}) (Core 𝓤 H A at-mem run){also} → Walks 𝓤 H A self.ended stayed (WpFn 𝓤 H C Λ code.function) (self.clauses 𝓤 H A at-mem run)
+  self-walks C Λ fm known{also_name} = walked 𝓤 H A self.ended stayed (self.clauses 𝓤 H A at-mem run) (WpFn 𝓤 H C Λ code.function)
       (λ κs. {nested(vals)})
       (λ κs. {nested(tells)})
       (λ κs qs bounds a g are. via 𝓤 _ (fst∗ 𝓤 _ (emp 𝓤)) ({call}))
@@ -76,11 +84,11 @@ def closing(n, lives, vals, tells, call, goes):
   all-go : AllGo 𝓤 H A W {lives} (self.signature .params) (self.ended .kept) stayed
   all-go = {nested(goes)}
 
-self-meets : {{M : Type 1}} (𝓤 : URA M) (H : Heap 𝓤) (A : Atoms 𝓤) → Given 𝓤 H A → (at-mem : Memory → SProp 𝓤) (run : Routine → Fun 𝓤) (𝓣 : Tables 𝓤 H) → Triple 𝓤 (𝓣 .C {n.core_key}) (Core 𝓤 H A at-mem run)
+self-meets : {{M : Type 1}} (𝓤 : URA M) (H : Heap 𝓤) (A : Atoms 𝓤) → Given 𝓤 H A → (at-mem : Memory → SProp 𝓤) (run : Routine → Fun 𝓤) (𝓣 : Tables 𝓤 H) → Triple 𝓤 (𝓣 .C {n.core_key}) (Core 𝓤 H A at-mem run){also_known}
     → Meets 𝓤 H A self.signature (WpFn 𝓤 H (𝓣 .C) (𝓣 .Λ) code.function) (self.spec 𝓤 H A at-mem run)
-self-meets 𝓤 H A W at-mem run 𝓣 known =
+self-meets 𝓤 H A W at-mem run 𝓣 known{also_name} =
     walk-meets 𝓤 H A self.ended stayed W (all-go 𝓤 H A W at-mem run) (self.clauses 𝓤 H A at-mem run)
-    (WpFn 𝓤 H (𝓣 .C) (𝓣 .Λ) code.function) (WpFn-mono 𝓤 H (W .laws) 𝓣 code.function) (self-walks 𝓤 H A W at-mem run (𝓣 .C) (𝓣 .Λ) (fmOf 𝓤 H (W .laws) 𝓣) known)
+    (WpFn 𝓤 H (𝓣 .C) (𝓣 .Λ) code.function) (WpFn-mono 𝓤 H (W .laws) 𝓣 code.function) (self-walks 𝓤 H A W at-mem run (𝓣 .C) (𝓣 .Λ) (fmOf 𝓤 H (W .laws) 𝓣) known{also_name})
 
 pub {dashed(n.function)}-spec : {{M : Type 1}} → stated.statement M
 unfolding code.routine tablesOf
@@ -88,5 +96,5 @@ unfolding code.routine tablesOf
     entered 𝓤 H (tripleOf 𝓤 H (𝓖 .A) self.signature (self.spec 𝓤 H (𝓖 .A) (𝓜 .mem) (𝓡 .run)))
     (tables 𝓤 H 𝓜 𝓡 code.env .C) (tables 𝓤 H 𝓜 𝓡 code.env .Λ) {n.key} code.function (code.unfolded 𝓤 H 𝓜 𝓡)
     (self-meets 𝓤 H (𝓖 .A) (givenOf 𝓤 H 𝓜 𝓖) (𝓜 .mem) (𝓡 .run) (tablesOf 𝓤 H 𝓜 (tables 𝓤 H 𝓜 𝓡 code.env))
-    (cited 𝓤 H (Core 𝓤 H (𝓖 .A) (𝓜 .mem) (𝓡 .run)) 𝓜 𝓡 code.env {n.core_key} callee-def.routine code.calls-{n.called} (callee-thm.met 𝓤 H 𝓜 𝓖 𝓡)))
+    (cited 𝓤 H (Core 𝓤 H (𝓖 .A) (𝓜 .mem) (𝓡 .run)) 𝓜 𝓡 code.env {n.core_key} callee-def.routine code.calls-{n.called} (callee-thm.met 𝓤 H 𝓜 𝓖 𝓡)){also_cited})
 """

@@ -18,22 +18,8 @@ def proof(f):
     say(given(f, n, p))
     owns = f"owns (T.the-row ∷ {p.types()}) a at-all"
     ghost = f"(({lives}, {shares}, tt, a, at-all), tt)"
-    say(f"  abbrev to : Core 𝓤 H A at-mem run .Ghost\n  to = {ghost}\n")
-    say(f"  asked : ent 𝓤 (⋆ 𝓤 H A (({tokens}) ∷ ‵ ({owns}) ∷ [])) (Core 𝓤 H A at-mem run .pre to)\n  asked = qed W (({tokens}) ∷ ‵ ({owns}) ∷ []) ∵ join ! $ frame ! $ done !\n")
     kept = n.kept(p)
-    g = Context(["tokens", "owns"])
-    g.front("owns")
-    g.say("fsplit !")
-    g.become(1, "record", "rest")
-    n.copies(g, p)
-    g.front("record", "rest")
-    g.say("fjoin !")
-    g.become(2, "rest")
-    g.front("tokens", "rest", *["kept-" + x.name for x in p.shared])
-    g.say("use2 W (raw (Core 𝓤 H A at-mem run .pre to)) asked")
-    for _ in p.shared:
-        g.say("frame !")
-    say(f"  goes : ent 𝓤 (⋆ 𝓤 H A (({tokens}) ∷ ‵ ({owns}) ∷ [])) (⋆ 𝓤 H A (({kept}) ∷ []))\n  goes = qed W (({tokens}) ∷ ‵ ({owns}) ∷ []) ∵ {g.text('done !')}\n")
+    say(n.opened(p, tokens, owns, ghost, kept))
     say(said(f, lives, "a"))
     say(f"  abbrev made : Step → Reader\n  made r = record {{ {arena.name} = {arena.name}; {'; '.join(f'{x} = r .{x}' for x in numbers)} }}\n")
     say(fits(f))

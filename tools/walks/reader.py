@@ -4,6 +4,7 @@
     stepping    fn F(r: READER) -> STEP                  { CORE(r.arena, r.x, ..) }
     stepping    fn F(r: READER) -> READER                { let s = CORE(r.arena, r.x, ..); READER { arena: r.arena, x: s.x, .. } }
     following   fn F(arena, x, ..) -> STEP               { CORE(READER { arena, x, .. }) }
+    first       fn F(h: RECORD, arena, P..) -> STEP      { THEN(CORE(h, arena, P..)) }
 
 A struct of `&` is copied, not lent: what it owns is had twice, once for the call and once for the exit."""
 from frame import INTO, lines, nested, nth

@@ -116,6 +116,30 @@ class Steps:
   goes g = qed W (({tokens}) ∷ ‵ rest ∷ []) ∵ {g.text('done !')}
 """
 
+    def opened(self, p, tokens, owns, ghost, kept):
+        """The call of a function that takes all that this one takes: what it asks, with a copy kept of each `&` slice."""
+        g = Context(["tokens", "owns"])
+        g.front("owns")
+        g.say("fsplit !")
+        g.become(1, "record", "rest")
+        self.copies(g, p)
+        g.front("record", "rest")
+        g.say("fjoin !")
+        g.become(2, "rest")
+        g.front("tokens", "rest", *["kept-" + x.name for x in p.shared])
+        g.say("use2 W (raw (Core 𝓤 H A at-mem run .pre to)) asked")
+        for _ in p.shared:
+            g.say("frame !")
+        return f"""  abbrev to : Core 𝓤 H A at-mem run .Ghost
+  to = {ghost}
+
+  asked : ent 𝓤 (⋆ 𝓤 H A (({tokens}) ∷ ‵ ({owns}) ∷ [])) (Core 𝓤 H A at-mem run .pre to)
+  asked = qed W (({tokens}) ∷ ‵ ({owns}) ∷ []) ∵ join ! $ frame ! $ done !
+
+  goes : ent 𝓤 (⋆ 𝓤 H A (({tokens}) ∷ ‵ ({owns}) ∷ [])) (⋆ 𝓤 H A (({kept}) ∷ []))
+  goes = qed W (({tokens}) ∷ ‵ ({owns}) ∷ []) ∵ {g.text('done !')}
+"""
+
     def gather(self, e, p):
         """What the parameters after the record own, put together in their order."""
         e.say("nothing !")

@@ -11,12 +11,11 @@ use Rattle.answers.specs.declared.Refusal.the-variants.{BadState}
 use Rattle.answers.specs.Paper.{numberOf}
 use Rattle.linked_list.specs.Links.{next, nodes}
 use Rattle.heap_state.specs.declared.Heap.{Heap}
-use Rattle.heap_state.specs.Lists.{list}
 use Rattle.heap_blocks.specs.Sound.{reaches, soundb}
 use Rattle.heap_blocks.proofs.Facts.{sound-fact}
 use Rattle.heap_blocks.proofs.Walks.{lists-fact}
 use Rattle.heap_reader.specs.declared.Step.{Step}
-use Rattle.heap_reader.specs.Reading.{nothing, stepAt, startOf, yielded}
+use Rattle.heap_reader.specs.Reading.{nothing, stepAt, startOf, firstOf, yielded, YieldsTheList, YieldsNothing}
 
 -- ---- one step, by the tests that the code makes
 
@@ -56,20 +55,44 @@ unfolding startOf
 unsound-start h arena ledger class e = rw (startOf, e) refl
 
 -- a reader that is not refused is one of a sound heap
-pub refused-start : (h : Heap) (arena ledger : List ℕ) (class : ℕ) → (startOf h arena ledger class .number ≡ 0 → ⊥) → soundb h arena ledger ≡ false
+refused-start : (h : Heap) (arena ledger : List ℕ) (class : ℕ) → (startOf h arena ledger class .number ≡ 0 → ⊥) → soundb h arena ledger ≡ false
 refused-start h arena ledger class q = go (soundb h arena ledger) refl
   where
     go : (b : Bool) → soundb h arena ledger ≡ b → soundb h arena ledger ≡ false
     go false e = e
     go true e = absurd (q (ap (λ (s : Step). s .number) (sound-start h arena ledger class e)))
 
-pub read-start : (h : Heap) (arena ledger : List ℕ) (class : ℕ) → startOf h arena ledger class .number ≡ 0
+read-start : (h : Heap) (arena ledger : List ℕ) (class : ℕ) → startOf h arena ledger class .number ≡ 0
     → (soundb h arena ledger ≡ true) × (startOf h arena ledger class .at ≡ getD (h .heads) class 0)
 read-start h arena ledger class n = go (soundb h arena ledger) refl
   where
     go : (b : Bool) → soundb h arena ledger ≡ b → (soundb h arena ledger ≡ true) × (startOf h arena ledger class .at ≡ getD (h .heads) class 0)
     go true e = (e, ap (λ (s : Step). s .at) (sound-start h arena ledger class e))
     go false e = absurd (let z : 0 ≡ 3 = sym n ∙ ap (λ (s : Step). s .number) (unsound-start h arena ledger class e) in omega arith)
+
+-- ---- the first step
+
+step-node : (arena : List ℕ) (at : ℕ) → stepAt arena at 0 .node ≡ at
+unfolding stepAt
+step-node arena zero = refl
+step-node arena (suc a) = refl
+
+step-number : (arena : List ℕ) (at number : ℕ) → stepAt arena at number .number ≡ number
+unfolding stepAt
+step-number arena zero zero = refl
+step-number arena (suc a) zero = refl
+step-number arena at (suc n) = refl
+
+module _ (h : Heap) (arena ledger : List ℕ) (class : ℕ) where
+  pub refused-first : (firstOf h arena ledger class .number ≡ 0 → ⊥) → soundb h arena ledger ≡ false
+  refused-first q = refused-start h arena ledger class (λ z. q (step-number arena (startOf h arena ledger class .at) (startOf h arena ledger class .number) ∙ z))
+
+  pub read-first : firstOf h arena ledger class .number ≡ 0 → (soundb h arena ledger ≡ true) × (firstOf h arena ledger class .node ≡ getD (h .heads) class 0)
+  read-first n =
+      let s = startOf h arena ledger class in
+      let z : s .number ≡ 0 = sym (step-number arena (s .at) (s .number)) ∙ n in
+      let r = read-start h arena ledger class z in
+      (r .0, ap (λ (m : ℕ). stepAt arena (s .at) m .node) z ∙ (step-node arena (s .at) ∙ r .1))
 
 -- ---- turn by turn
 
@@ -94,19 +117,15 @@ in-order (suc fewer) after arena (suc a) e =
 
 -- ---- the reader
 
-module _ (h : Heap) (arena ledger : List ℕ) (class : ℕ) where
-  abbrev start : Step
-  start = startOf h arena ledger class
+pub sound-reader : YieldsTheList
+sound-reader h arena ledger class after e =
+    let s = sound-fact h arena ledger e in
+    let n : suc (length arena - 1) ≡ length arena = omega (arith, s .ranges .arena-low) in
+    let all = in-order (length arena - 1) after arena (getD (h .heads) class 0) (lists-fact arena (h .heads) (s .lists) class) in
+    rw (sound-start h arena ledger class e) (
+      refl,
+      subst (λ (m : ℕ). yielded (length (nodes m arena (getD (h .heads) class 0)) + after) arena (getD (h .heads) class 0) 0 ≡ nodes m arena (getD (h .heads) class 0) ++ replicate after 0) n all,
+    )
 
-  abbrev its-list : List ℕ
-  its-list = list class (record { heads = h .heads; arena = arena })
-
-  pub sound-reader : (after : ℕ) → soundb h arena ledger ≡ true → (start .number ≡ 0) × (yielded (length its-list + after) arena (start .at) (start .number) ≡ its-list ++ replicate after 0)
-  sound-reader after e =
-      let s = sound-fact h arena ledger e in
-      let n : suc (length arena - 1) ≡ length arena = omega (arith, s .ranges .arena-low) in
-      let all = in-order (length arena - 1) after arena (getD (h .heads) class 0) (lists-fact arena (h .heads) (s .lists) class) in
-      rw (sound-start h arena ledger class e) (refl, subst (λ (m : ℕ). yielded (length (nodes m arena (getD (h .heads) class 0)) + after) arena (getD (h .heads) class 0) 0 ≡ nodes m arena (getD (h .heads) class 0) ++ replicate after 0) n all)
-
-  pub unsound-reader : (turns : ℕ) → soundb h arena ledger ≡ false → (start .number ≡ numberOf BadState) × (yielded turns arena (start .at) (start .number) ≡ replicate turns 0)
-  unsound-reader turns e = rw (unsound-start h arena ledger class e) (refl, none-left turns arena (numberOf BadState))
+pub unsound-reader : YieldsNothing
+unsound-reader h arena ledger class turns e = rw (unsound-start h arena ledger class e) (refl, none-left turns arena (numberOf BadState))

@@ -53,6 +53,5 @@ pub fn following(arena: &[u64], at: u64, number: u64) -> Step
 pub fn first(h: Heap, arena: &[u64], ledger: &[u64], class: u64) -> Step
     ensures { λ s. ⌜ s ≡ firstOf h (now (arena .entry)) (now (ledger .entry)) class ⌝ }
 {
-    let s = start_of(h, arena, ledger, class);
-    following(arena, s.at, s.number)
+    next(open(h, arena, ledger, class))
 }

@@ -11,8 +11,8 @@ use crate::Ran;
 use answers::Answer;
 use answers::Refusal;
 use heap_lines::Command;
+use heap_reader::first;
 use heap_reader::following;
-use heap_reader::start_of;
 use heap_state::Heap;
 
 fn count_nodes(head: u64, arena: &[u64]) -> usize
@@ -34,11 +34,11 @@ fn count_nodes(head: u64, arena: &[u64]) -> usize
 fn nodes_of(class: u64, heap: Heap, arena: &[u64], ledger: &[u64]) -> Printed
     ensures { λ r. ⌜ Lists class (state heap (now (arena .entry)) (now (ledger .entry))) r ⌝ }
 {
-    let start = start_of(heap, arena, ledger, class);
+    let start = first(heap, arena, ledger, class);
     if start.number != 0 {
         return Printed::Reply(Answer::Refused(Refusal::BadState));
     }
-    Printed::Nodes(start.at, count_nodes(start.at, arena))
+    Printed::Nodes(start.node, count_nodes(start.node, arena))
 }
 
 pub(crate) fn list(class: u64, lent: Lent, arena: &[u64], ledger: &[u64]) -> Ran
