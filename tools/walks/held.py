@@ -40,7 +40,7 @@ class Function:
 
 RECORD = Named("heap_state", "Heap")
 SETTLED = Named("heap_held", "Settled", ("number", "value", "heap"), "heap")
-ANSWER = Named("answers", "CAnswer", ("number", "value"))
+ANSWER = Named("answers_c", "CAnswer", ("number", "value"))
 STATE = "(state h (arena .now) (ledger .now))"
 
 

@@ -2,7 +2,6 @@
 use Prim.Native.Nat.{ℕ}
 use Rattle.answers.specs.declared.Answer.{Answer}
 use Rattle.answers.specs.declared.Answer.the-variants.{Done, Refused}
-use Rattle.answers.specs.declared.CAnswer.{CAnswer}
 use Rattle.answers.specs.declared.Refusal.{Refusal}
 use Rattle.answers.specs.declared.Refusal.the-variants.{BadOrder, BadSize, BadState, BadRange, NullStart, Overlap, BadAlign, Misaligned, NoBlock, NotGranted, NoRoom}
 
@@ -28,7 +27,3 @@ pub record Paper : Type 0 where
 abbrev pub paper : Answer → Paper
 paper (Done v) = record { number = 0; value = v }
 paper (Refused r) = record { number = numberOf r; value = 0 }
-
--- the same two numbers as C gets them
-abbrev pub numbersOf : Answer → CAnswer
-numbersOf a = record { number = paper a .number; value = paper a .value }

@@ -1,6 +1,6 @@
 // What a call answers: done, with a value, or refused, with one of the numbers of docs/RULES.md, "Refusal numbers".
 ghost use mathlib.Core.Path.{_≡_};
-ghost use Rattle.answers.specs.Paper.{numberOf, paper, numbersOf};
+ghost use Rattle.answers.specs.Paper.{numberOf, paper};
 
 // One case for each refusal number, 1 to 11, in the order of the numbers.
 pub enum Refusal {
@@ -58,20 +58,4 @@ pub fn refusal_number(refusal: Refusal) -> u64
         Refusal::NotGranted => 10,
         Refusal::NoRoom => 11,
     }
-}
-
-// An answer as C gets it: 16 bytes, which come back in registers on every machine that we compile for.
-#[repr(C)]
-pub struct CAnswer {
-    pub number: u64,
-    pub value: u64,
-}
-
-// The answer's two numbers together.
-pub fn numbers(answer: Answer) -> CAnswer
-    ensures { λ r. ⌜ r ≡ numbersOf answer ⌝ }
-{
-    let number = number(answer);
-    let value = value(answer);
-    CAnswer { number, value }
 }

@@ -3,7 +3,7 @@ use mathlib.Core.Path.{_≡_, sym, ap, _∙_}
 use mathlib.Core.List.{List}
 use Prim.Native.Nat.{ℕ}
 use lib.ListN.{getD}
-use Rattle.answers.specs.declared.CAnswer.{CAnswer}
+use Rattle.answers_c.specs.declared.CAnswer.{CAnswer}
 use Rattle.frame_core.specs.Carried.{Reply, Outcome}
 use Rattle.frame_c.specs.Crossed.{Crossed, CrossedFigures}
 

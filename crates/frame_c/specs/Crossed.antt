@@ -1,7 +1,7 @@
 -- What crosses to C: an answer as its two numbers, and the promise of a call in them.
 use mathlib.Core.List.{List, [], _∷_}
 use Prim.Native.Nat.{ℕ}
-use Rattle.answers.specs.declared.CAnswer.{CAnswer}
+use Rattle.answers_c.specs.declared.CAnswer.{CAnswer}
 use Rattle.frame_core.specs.Carried.{Reply, Outcome, Says}
 
 -- what C gets, as a reply on paper

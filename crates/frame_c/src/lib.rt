@@ -3,8 +3,8 @@
 ghost use mathlib.Core.Path.{_≡_};
 ghost use Rattle.frame.specs.Outcome.{Add, Alloc, AllocAligned, AllocAt, Dealloc, DeallocAligned, Summary, outcome, making};
 ghost use Rattle.frame_c.specs.Crossed.{Crossed, CrossedFigures};
-use answers::CAnswer;
-use answers::numbers;
+use answers_c::CAnswer;
+use answers_c::numbers;
 use frame::Report;
 
 #[no_mangle]

@@ -4,10 +4,11 @@ use mathlib.Core.List.{List}
 use Prim.Native.Nat.{ℕ}
 use Rattle.answers.specs.declared.Answer.{Answer}
 use Rattle.answers.specs.declared.Answer.the-variants.{Done, Refused}
-use Rattle.answers.specs.declared.CAnswer.{CAnswer}
+use Rattle.answers_c.specs.declared.CAnswer.{CAnswer}
 use Rattle.answers.specs.declared.Refusal.{Refusal}
 use Rattle.answers.specs.declared.Refusal.the-variants.{BadOrder, BadSize, BadState, BadRange, NullStart, Overlap, BadAlign, Misaligned, NoBlock, NotGranted, NoRoom}
-use Rattle.answers.specs.Paper.{numberOf, paper, numbersOf}
+use Rattle.answers.specs.Paper.{numberOf, paper}
+use Rattle.answers_c.specs.Numbers.{numbersOf}
 use Rattle.heap_state.specs.declared.Heap.{Heap}
 use Rattle.heap_state.specs.declared.Reply.{Reply}
 use Rattle.heap_state.specs.State.{State, state, Outcome, Says}

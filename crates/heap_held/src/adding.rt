@@ -4,7 +4,7 @@ ghost use Rattle.heap.specs.Outcome.{Init, AddToHeap, outcome};
 ghost use Rattle.heap_held.specs.Crossed.{Crossed};
 use super::Settled;
 use super::in_numbers;
-use answers::CAnswer;
+use answers_c::CAnswer;
 use heap_state::Heap;
 
 fn init_settled(h: Heap, arena: &mut [u64], ledger: &[u64], start: u64, size: u64) -> Settled

@@ -4,7 +4,7 @@ ghost use Rattle.heap.specs.Outcome.{Alloc, Dealloc, ZeroFill, outcome};
 ghost use Rattle.heap_held.specs.Crossed.{Crossed};
 use super::Settled;
 use super::in_numbers;
-use answers::CAnswer;
+use answers_c::CAnswer;
 use heap_state::Heap;
 
 fn alloc_settled(h: Heap, arena: &mut [u64], ledger: &mut [u64], size: u64, align: u64) -> Settled

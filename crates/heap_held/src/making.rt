@@ -4,7 +4,7 @@ ghost use Rattle.heap_held.specs.Crossed.{Crossed, makingOver};
 use super::Settled;
 use super::in_numbers;
 use answers::Answer;
-use answers::CAnswer;
+use answers_c::CAnswer;
 use heap_state::Heap;
 use heap_state::Reply;
 

@@ -2,8 +2,8 @@
 ghost use Rattle.heap_state.specs.State.{state};
 ghost use Rattle.heap.specs.Outcome.{StatsAllocUser, StatsAllocActual, StatsTotalBytes, outcome};
 ghost use Rattle.heap_held.specs.Crossed.{Crossed};
-use answers::CAnswer;
-use answers::numbers;
+use answers_c::CAnswer;
+use answers_c::numbers;
 use heap_state::Heap;
 
 fn stats_alloc_user_numbers(h: Heap, arena: &[u64], ledger: &[u64]) -> CAnswer

@@ -1,8 +1,8 @@
--- `answers::numbers` meets its contract. Assumes nothing.
+-- `answers_c::numbers` meets its contract. Assumes nothing.
 use mathlib.Core.Path.{refl}
 use borrow.Author.Needs.{needs}
-use Rattle.answers.proofs.numbers.Statement.{statement}
-use Rattle.answers.proofs.numbers.Tie as tie
+use Rattle.answers_c.proofs.numbers.Statement.{statement}
+use Rattle.answers_c.proofs.numbers.Tie as tie
 
 number-requires : tie.Need-number-requires
 number-requires c κs = search needs
