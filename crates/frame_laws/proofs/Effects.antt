@@ -8,6 +8,7 @@ use native.Mathlib.Omega.{arith}
 use lib.Dec.{eqb, leb, ltb}
 use lib.ListN.{length}
 use borrow.Author.Tests.{eqb-true, leb-false, ltb-false, not-false}
+use Rattle.words.proofs.Tests.{not-either}
 use Rattle.answers.specs.declared.Refusal.{Refusal}
 use Rattle.answers.specs.declared.Refusal.the-variants.{BadRange, Overlap, BadAlign, Misaligned, NoBlock, NotGranted, NoRoom}
 use Rattle.answers.specs.Paper.{numberOf}
@@ -49,10 +50,6 @@ test : (P : Decision → Type 0) (b : Bool) (r : Refusal) (cs : List Check) (d :
 test P true r cs d holds fails = holds
 test P false r cs d holds fails = fails refl
 
-pub neither : (a b : Bool) → a || b ≡ false → (a ≡ false) × (b ≡ false)
-neither true b e = absurd (true≢false e)
-neither false b e = (refl, e)
-
 -- what is left of the checks of a grant once its class is known to be small enough, and what it decides
 module _ (room : ℕ) (bs : List Block) where
   abbrev pub rest : Found → (Block → ℕ) → ℕ → List Check
@@ -76,7 +73,7 @@ module _ (order room : ℕ) (bs : List Block) (low : 1 ≤ order) (high : order 
       (λ clear.
       test (Has (Add s e)) (ltb room (length (added (order - 1) s e bs))) NoRoom [] d (refuses {r = NoRoom} (omega arith))
       (λ enough.
-      let w = neither (ltb e s) (ltb (2 ^ 32) e) within in
+      let w = not-either (ltb e s) (ltb (2 ^ 32) e) within in
       adds (added-leaves s e bs (omega arith) (ltb-false e s (w .0)) (ltb-false (2 ^ 32) e (w .1)) sound clear) (ltb-false room _ enough))))
 
   -- a grant from the block that was found

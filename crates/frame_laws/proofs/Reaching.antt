@@ -8,6 +8,7 @@ use native.Mathlib.Omega.{arith}
 use lib.Dec.{ltb}
 use lib.ListN.{length}
 use borrow.Author.Tests.{ltb-false}
+use Rattle.words.proofs.Tests.{not-either}
 use Rattle.rules.specs.Largest.{Covered}
 use Rattle.rules.specs.Rules.{Block, Sound, none}
 use Rattle.rules.specs.Managed.{Granted, Spare, Kept}
@@ -17,7 +18,6 @@ use Rattle.frame.specs.Outcome.{making}
 use Rattle.frame_laws.specs.History.{World, Reached, fresh, NoTouch, FreeFrame}
 use Rattle.frame_laws.specs.Demand3 as say
 use Rattle.frame_laws.proofs.Tables.{Stands, stands-blocks, stands-sound}
-use Rattle.frame_laws.proofs.Effects.{neither}
 use Rattle.frame_laws.proofs.Steps.{Known, after-known}
 
 -- a table that was just made
@@ -29,8 +29,8 @@ fresh-known order lent e = go (ltb order 1 || ltb 33 order) refl (ltb (length le
     go true p b q = let z : _≡_ {A = ℕ} 1 0 = rw p at e in absurd (omega arith)
     go false p true q = let z : _≡_ {A = ℕ} 2 0 = rw (p, q) at e in absurd (omega arith)
     go false p false q =
-        let o = neither (ltb order 1) (ltb 33 order) p in
-        let m = neither (ltb (length lent) 1) (ltb 65536 (length lent)) q in
+        let o = not-either (ltb order 1) (ltb 33 order) p in
+        let m = not-either (ltb (length lent) 1) (ltb 65536 (length lent)) q in
         let low : 1 ≤ order = ltb-false order 1 (o .0) in
         let high : order ≤ 33 = ltb-false 33 order (o .1) in
         let long : 1 ≤ length lent = ltb-false (length lent) 1 (m .0) in

@@ -9,6 +9,7 @@ use Rattle.answers.specs.declared.Answer.the-variants.{Refused}
 use Rattle.answers.specs.declared.Refusal.the-variants.{BadState}
 use Rattle.answers.specs.Paper.{paper}
 use Rattle.texts.specs.Text.{decimal, lineFeed}
+use Rattle.linked_list.proofs.Steps.{nodes-end, nodes-none, nodes-step}
 use Rattle.linked_list.specs.Links.{next, nodes}
 use Rattle.heap_core.specs.Deciding.{memory}
 use Rattle.heap_state.specs.Lists.{list}
@@ -137,18 +138,10 @@ lists-sound class s head count e h k =
 -- ---- a count of nodes
 
 pub count-end : (f : ℕ) (arena : List ℕ) (a : ℕ) → a ≡ 0 → length (nodes f arena a) ≡ 0
-unfolding nodes
-count-end zero arena a e = refl
-count-end (suc f) arena zero e = refl
-count-end (suc f) arena (suc a) e = absurd (omega arith)
+count-end f arena a e = rw (e, nodes-end f arena) refl
 
 pub count-none : (f : ℕ) (arena : List ℕ) (a : ℕ) → f ≡ 0 → length (nodes f arena a) ≡ 0
-unfolding nodes
-count-none zero arena a e = refl
-count-none (suc f) arena a e = absurd (omega arith)
+count-none f arena a e = rw (nodes-none f arena a (omega (arith, e))) refl
 
 pub count-step : (f : ℕ) (arena : List ℕ) (a : ℕ) → 0 < f → (a ≡ 0 → ⊥) → length (nodes f arena a) ≡ suc (length (nodes (f - 1) arena (next arena a)))
-unfolding nodes
-count-step zero arena a p q = absurd (omega arith)
-count-step (suc f) arena zero p q = absurd (q refl)
-count-step (suc f) arena (suc a) p q = let e : f ≡ suc f - 1 = omega arith in ap (λ (g : ℕ). suc (length (nodes g arena (next arena (suc a))))) e
+count-step f arena a p q = ap (λ (xs : List ℕ). length xs) (nodes-step f (f - 1) arena a (omega arith) q)
