@@ -1,9 +1,12 @@
 // What a call answers: done, with a value, or refused, with one of the numbers of docs/RULES.md, "Refusal numbers".
+
+#![tactic(auto)]
+
 ghost use Rattle.std.specs.Prelude.{◌≡◌};
 ghost use Rattle.answers.specs.Paper.{number_of, paper};
 
 // One case for each refusal number, 1 to 11, in the order of the numbers.
-#[derive(Drop)]
+#[derive(Clone, Copy)]
 pub enum Refusal {
     BadOrder,
     BadSize,
@@ -18,7 +21,7 @@ pub enum Refusal {
     NoRoom,
 }
 
-#[derive(Drop)]
+#[derive(Clone, Copy)]
 pub enum Answer {
     Done(u64),
     Refused(Refusal),

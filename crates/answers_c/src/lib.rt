@@ -1,4 +1,7 @@
 // What C gets of an answer: its two numbers.
+
+#![tactic(auto)]
+
 ghost use Rattle.std.specs.Prelude.{◌≡◌};
 ghost use Rattle.answers_c.specs.Numbers.{numbers_of};
 
@@ -6,7 +9,7 @@ use answers::Answer;
 
 // An answer as C gets it: 16 bytes, which come back in registers on every machine that we compile for.
 #[repr(C)]
-#[derive(Drop)]
+#[derive(Clone, Copy)]
 pub struct CAnswer {
     pub number: u64,
     pub value: u64,

@@ -1,11 +1,14 @@
 // Prints what `blocks` answers for each decimal number on standard input, a line for each.
+
+#![tactic(auto)]
+
 ghost use Rattle.std.specs.Prelude.{◌≤◌};
 
 use blocks::Rounded;
 use libc::{STDIN_FILENO, STDOUT_FILENO};
 
 // The number being read: whether it has a digit yet, and whether it is still below 2^64.
-#[derive(Drop)]
+#[derive(Clone, Copy)]
 struct Reading {
     value: u64,
     begun: bool,
@@ -114,7 +117,7 @@ fn take_all(start: Reading, bytes: &[u8]) -> Reading {
 }
 
 // What one read gave: the number so far, and whether the input may go on.
-#[derive(Drop)]
+#[derive(Clone, Copy)]
 struct Step {
     reading: Reading,
     more: bool,

@@ -1,10 +1,13 @@
 // The arithmetic of buddy blocks: sizes, rounding, the lowest set bit, the buddy, and the next piece of a cut.
 // Numbers alone, no memory. Every function has an answer for every number; specs/Blocks.antt says which.
+
+#![tactic(auto)]
+
 ghost use Rattle.std.specs.Prelude.{◌≡◌, min};
 ghost use Rattle.blocks.specs.Blocks.{size_of, size_class, prev_power_of_two, rounded, rounded_aligned, is_power_of_two, lowest_bit, buddy_of, piece_size};
 
 // What a count is rounded to: the class of the least block that holds it, or Above for a count above 2^32.
-#[derive(Drop)]
+#[derive(Clone, Copy)]
 pub enum Rounded {
     Class(u64),
     Above,

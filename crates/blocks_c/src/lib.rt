@@ -1,4 +1,7 @@
 // The functions of `blocks` for C and Rust to call, so that a run can hold them to the Rust. Firmware needs none of them.
+
+#![tactic(auto)]
+
 ghost use Rattle.std.specs.Prelude.{◌≡◌};
 ghost use Rattle.blocks.specs.Blocks.{size_of, size_class, prev_power_of_two, rounded, rounded_aligned, is_power_of_two, lowest_bit, buddy_of, piece_size};
 ghost use Rattle.blocks_c.specs.Numbers.{class_number, flag};

@@ -1,4 +1,7 @@
 // Runs each line of standard input as a call on a frame table of 4,096 words, prints its reply, and at the end the table.
+
+#![tactic(auto)]
+
 ghost use Rattle.std.specs.Prelude.{◌≡◌, ◌≤◌, ◌<◌, length, take};
 ghost use Rattle.frame_lines.specs.Command.{command_of};
 ghost use Rattle.texts.specs.Put.{Put, Shown};
@@ -10,21 +13,21 @@ use libc::{STDIN_FILENO, STDOUT_FILENO};
 use texts::room;
 
 // What a line prints: the reply of a call, with or without its value, or that it is no call.
-#[derive(Drop)]
+#[derive(Clone, Copy)]
 enum Printed {
     Reply(Answer, bool),
     BadLine,
 }
 
 // How many bytes of the line at hand are held, and how many of the output wait to be written.
-#[derive(Drop)]
+#[derive(Clone, Copy)]
 struct Place {
     held: usize,
     out: usize,
 }
 
 // What one read gave: the places afterwards, and whether the input may go on.
-#[derive(Drop)]
+#[derive(Clone, Copy)]
 struct Step {
     place: Place,
     more: bool,

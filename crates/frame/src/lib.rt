@@ -2,6 +2,8 @@
 // parts in `frame_add`, `frame_grant`, `frame_release` and `frame_core`. None asks anything of its caller; specs/Outcome.antt says what each
 // answers and leaves.
 
+#![tactic(auto)]
+
 ghost use Rattle.frame.specs.Outcome.{Add, Alloc, AllocAligned, AllocAt, Dealloc, DeallocAligned};
 ghost use Rattle.frame.specs.Told.{Made, Told, Summed};
 
@@ -9,7 +11,7 @@ use answers::{Answer, Refusal};
 use frame_core::Figures;
 
 // What a summary answers.
-#[derive(Drop)]
+#[derive(Clone, Copy)]
 pub enum Report {
     Of(Figures),
     Refused(Refusal),

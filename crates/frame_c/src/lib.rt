@@ -1,5 +1,8 @@
 // The frame table for C: each call takes a pointer, a count of words, and numbers, and answers two numbers. include/lavikety.h is
 // what C sees of it; nothing larger than 16 bytes crosses by value.
+
+#![tactic(auto)]
+
 ghost use Rattle.std.specs.Prelude.{◌≡◌};
 ghost use Rattle.frame.specs.Outcome.{Add, Alloc, AllocAligned, AllocAt, Dealloc, DeallocAligned, Summary, outcome, making};
 ghost use Rattle.frame_c.specs.Crossed.{Crossed, CrossedFigures};

@@ -5,7 +5,7 @@ ghost use Rattle.table.specs.Sound.{soundb};
 ghost use Rattle.frame_core.specs.Tally.{Tallied, free_of};
 
 // Frames granted, frames managed, and the largest free run.
-#[derive(Drop)]
+#[derive(Clone, Copy)]
 pub struct Figures {
     pub granted: u64,
     pub managed: u64,

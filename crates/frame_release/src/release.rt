@@ -12,7 +12,7 @@ use blocks::Rounded;
 use rules::Place;
 
 // The records from place `from` up to, not including, `to` give way to one free block.
-#[derive(Drop)]
+#[derive(Clone, Copy)]
 struct Span {
     from: usize,
     to: usize,

@@ -1,6 +1,9 @@
 // The public calls on a heap over an arena, named as in the Rust: each tests the heap first and refuses with 3, then does the work by the
 // parts in `heap_add`, `heap_grant` and `heap_release`. The record goes in and comes out by value. None asks anything of its caller;
 // specs/Outcome.antt says what each answers and leaves. A heap is made by `Heap::new` or `Heap::empty` of `heap_state`.
+
+#![tactic(auto)]
+
 ghost use Rattle.heap_state.specs.State.{state};
 ghost use Rattle.heap.specs.Outcome.{Init, AddToHeap, Alloc, Dealloc, ZeroFill, StatsAllocUser, StatsAllocActual, StatsTotalBytes};
 ghost use Rattle.heap.specs.Told.{Told, Read};

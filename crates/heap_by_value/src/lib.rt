@@ -1,4 +1,7 @@
 // The functions that hold the record in place, for callers that have it by value: each puts the record in a local and lends that.
+
+#![tactic(auto)]
+
 ghost use Rattle.heap_state.specs.State.{state};
 ghost use Rattle.heap.specs.Outcome.{Init, AddToHeap, Alloc, Dealloc, ZeroFill, outcome};
 ghost use Rattle.heap_held.specs.Crossed.{Crossed, making_over};

@@ -1,17 +1,20 @@
 // Runs each line of standard input as a call on a heap over an arena of 4,096 words, prints its reply, and at the end all that is lent.
+
+#![tactic(auto)]
+
 mod reading;
 
 use heap_runs::Lent;
 
 // How many bytes of the line at hand are held, and how many of the output wait to be written.
-#[derive(Drop)]
+#[derive(Clone, Copy)]
 struct Place {
     held: usize,
     out: usize,
 }
 
 // What one read gave: the places and what is lent afterwards, and whether the input may go on.
-#[derive(Drop)]
+#[derive(Clone, Copy)]
 struct Step {
     place: Place,
     lent: Lent,

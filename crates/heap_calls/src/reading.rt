@@ -13,7 +13,7 @@ use libc::{STDIN_FILENO, STDOUT_FILENO};
 use texts::room;
 
 // What a line leaves: the place after what it prints, and what is lent.
-#[derive(Drop)]
+#[derive(Clone, Copy)]
 struct Went {
     lent: Lent,
     out: usize,

@@ -1,5 +1,8 @@
 // What the calls on a heap share once the heap was found sound: the class of a request, and the reply of a refused call. specs/Deciding.antt says
 // how a call decides.
+
+#![tactic(auto)]
+
 mod request;
 
 ghost use Rattle.std.specs.Prelude.{◌≡◌};

@@ -1,5 +1,8 @@
 // The heap with its record held in place, as the Rust's `&mut self` holds it, for C and for whoever keeps the record in its own memory: each
 // function copies the record out, calls the by-value core and stores the record that is left. include/lavikety.h is what C sees of it.
+
+#![tactic(auto)]
+
 mod adding;
 mod granting;
 mod making;
@@ -19,7 +22,7 @@ pub use stats::{
 };
 
 // What a call comes to, in numbers: 0 or the refusal's number, its value, and the record that it leaves.
-#[derive(Drop)]
+#[derive(Clone, Copy)]
 pub struct Settled {
     pub number: u64,
     pub value: u64,

@@ -1,10 +1,13 @@
 // What a line asks of the program `heap_calls`. The function answers every line; specs/ says what.
+
+#![tactic(auto)]
+
 mod commands;
 
 pub use commands::command_of;
 
 // The calls on a heap that change it.
-#[derive(Drop)]
+#[derive(Clone, Copy)]
 pub enum Call {
     Add(u64, u64),
     Init(u64, u64),
@@ -14,7 +17,7 @@ pub enum Call {
 }
 
 // What a line can put past every rule: a word of the arena or of the ledger, a head, or another field of the record.
-#[derive(Drop)]
+#[derive(Clone, Copy)]
 pub enum Cell {
     Arena(u64),
     Ledger(u64),
@@ -27,7 +30,7 @@ pub enum Cell {
 }
 
 // What a line asks for.
-#[derive(Drop)]
+#[derive(Clone, Copy)]
 pub enum Command {
     Make(u64, u64, u64),
     Remake(u64),

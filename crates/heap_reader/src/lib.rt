@@ -1,5 +1,8 @@
 // A reader over one list of a heap, as the Rust's `iter`: it holds the arena and the place it has come to, and yields the list's nodes in
 // order, and then nothing. The functions on the reader are thin over functions on the arena and numbers.
+
+#![tactic(auto)]
+
 mod plain;
 mod reading;
 
@@ -7,7 +10,7 @@ pub use plain::{start_of, step_at};
 pub use reading::{advance, first, following, next, open};
 
 // The address of the node to be yielded next, 0 where there is none, and 0 or the number of the refusal to read.
-#[derive(Drop)]
+#[derive(Clone, Copy)]
 pub struct Reader<'a> {
     pub arena: &'a [u64],
     pub at: u64,
@@ -15,7 +18,7 @@ pub struct Reader<'a> {
 }
 
 // The node that is yielded, 0 where there is none, and the reader's numbers afterwards.
-#[derive(Drop)]
+#[derive(Clone, Copy)]
 pub struct Step {
     pub node: u64,
     pub at: u64,

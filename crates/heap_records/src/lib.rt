@@ -1,11 +1,14 @@
 // The ledger's records of a heap, gone through once: whether each is well formed and its block in its place, and their sums. A part of the test of
 // a heap, in `heap_sound`.
+
+#![tactic(auto)]
+
 mod granted;
 
 pub use granted::records;
 
 // What a test of ledger records found: whether all is well, and then the sums of requested bytes and of block sizes.
-#[derive(Drop)]
+#[derive(Clone, Copy)]
 pub struct Sums {
     pub ok: bool,
     pub user: u64,

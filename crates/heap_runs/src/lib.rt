@@ -1,5 +1,8 @@
 // What a command of `heap_calls` does: to the record, to the words that are lent, and what is then to be printed.
 // specs/Run says what it leaves, specs/Text what it prints.
+
+#![tactic(auto)]
+
 mod running;
 mod setting;
 mod walking;
@@ -9,7 +12,7 @@ use heap_state::Heap;
 pub use running::run;
 
 // The heap record, and how many words of the arena and of the ledger are lent.
-#[derive(Drop)]
+#[derive(Clone, Copy)]
 pub struct Lent {
     pub heap: Heap,
     pub words: usize,
@@ -17,7 +20,7 @@ pub struct Lent {
 }
 
 // What a line prints: a reply, the three figures, the nodes of a list by its head and their count, that something was set, or that it is no call.
-#[derive(Drop)]
+#[derive(Clone, Copy)]
 pub enum Printed {
     Reply(Answer),
     Figures(Answer, Answer, Answer),
@@ -27,7 +30,7 @@ pub enum Printed {
 }
 
 // What a command leaves and prints.
-#[derive(Drop)]
+#[derive(Clone, Copy)]
 pub struct Ran {
     pub lent: Lent,
     pub line: Printed,

@@ -1,4 +1,7 @@
 // The heap over an arena: its record and its making. When it is sound is said in `heap_blocks`, and tested in `heap_sound`.
+
+#![tactic(auto)]
+
 mod making;
 mod ranges;
 
@@ -8,7 +11,7 @@ pub use ranges::ranges_ok;
 // As C keeps it, too: 38 words in this order.
 // ORDER, the heads of the 33 lists of free blocks, the number of ledger records, and three counts of bytes.
 #[repr(C)]
-#[derive(Drop)]
+#[derive(Clone, Copy)]
 pub struct Heap {
     pub order: u64,
     pub heads: [u64; 33],
@@ -19,7 +22,7 @@ pub struct Heap {
 }
 
 // What a call answers, and the record that it leaves.
-#[derive(Drop)]
+#[derive(Clone, Copy)]
 pub struct Reply {
     pub answer: Answer,
     pub heap: Heap,

@@ -1,5 +1,8 @@
 // The lines of an input, however it is cut into chunks, and where bytes are cut. What a line says is another crate's, `grammar`.
 // Every function answers every input; specs/ says what each answers and writes.
+
+#![tactic(auto)]
+
 mod chunks;
 mod pieces;
 
@@ -7,7 +10,7 @@ pub use chunks::gather;
 pub use pieces::piece_end;
 
 // What was taken of a chunk: the place to go on from, how many bytes of the line are kept, and whether the line ended.
-#[derive(Drop)]
+#[derive(Clone, Copy)]
 pub struct Gathered {
     pub at: usize,
     pub len: usize,

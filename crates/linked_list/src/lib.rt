@@ -1,5 +1,8 @@
 // Lists of free blocks, threaded through the words of a lent arena: an address is a byte offset in it, 0 is null, and a node's word holds
 // the next node's address. A list is its head. Nothing is asked of a caller: a read outside the arena is 0, a store outside does nothing.
+
+#![tactic(auto)]
+
 mod front;
 mod links;
 mod walk;
@@ -9,27 +12,27 @@ pub use links::next;
 pub use walk::{find, remove};
 
 // A block off the front of a list, and the head that is left.
-#[derive(Drop)]
+#[derive(Clone, Copy)]
 pub struct Taken {
     pub block: u64,
     pub head: u64,
 }
 
-#[derive(Drop)]
+#[derive(Clone, Copy)]
 pub enum Popped {
     Block(Taken),
     Nothing,
 }
 
 // The place of the link to a node: the list's head, or the word of the node at this address.
-#[derive(Drop)]
+#[derive(Clone, Copy)]
 pub enum Previous {
     Head,
     Word(u64),
 }
 
 // What a search found: whether the node is there, the place of the last link that was followed, and how many nodes were compared.
-#[derive(Drop)]
+#[derive(Clone, Copy)]
 pub struct Search {
     pub found: bool,
     pub previous: Previous,

@@ -1,4 +1,7 @@
 // The words of a frame table: their fields, and where a frame is in a sound table.
+
+#![tactic(auto)]
+
 mod layout;
 mod lookup;
 mod pack;

@@ -1,5 +1,8 @@
 // The text that the programs print: bytes and numbers put into a buffer, and the buffer written where the next piece might have no room.
 // specs/ says what each function writes.
+
+#![tactic(auto)]
+
 mod hex;
 mod output;
 mod text;

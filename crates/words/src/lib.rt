@@ -1,4 +1,7 @@
 // Words by the run, of a table or a ledger: zeros, and a tail moved in place.
+
+#![tactic(auto)]
+
 mod scan;
 mod splice;
 

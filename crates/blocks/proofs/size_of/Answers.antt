@@ -1,9 +1,8 @@
 -- `blocks::size_of` meets its contract: the rule of the table of sizes, at all of its 33 entries. Assumes nothing.
-use Rattle.std.proofs.Common.{◌≡◌, ℕ, ◌^◌, ◌≤◌, List, [], ◌∷◌, get_or, sym, ap, ◌∙◌, zero-add, arith, rules}
+use Rattle.std.proofs.Common.{◌≡◌, ℕ, ◌^◌, ◌≤◌, List, [], ◌∷◌, get_or, sym, ap, ◌∙◌, zero-add, arith}
 use Rattle.blocks.proofs.Table.{entry}
 use Rattle.blocks.proofs.Rounding.{size_is, size_none}
-use Rattle.blocks.proofs.size_of.Statement.{statement}
-use Rattle.blocks.proofs.size_of.Tie as tie
+use Rattle.blocks.proofs.size_of.Goals as goal
 
 -- the table of the code, as a list
 sizes : List ℕ
@@ -17,18 +16,9 @@ rule : (k : ℕ) → k ≤ 32 → get_or sizes k 0 ≡ 2 ^ k
 unfolding sizes
 rule k h = entry (λ j. 2 ^ j) 0 sizes tt k (omega arith) ∙ ap (λ (j : ℕ). 2 ^ j) (zero-add k)
 
-mul-result : tie.Need-overflow-mul-result
-mul-result c = search rules
-
-array-read-result : tie.Need-array-read-result
-array-read-result c = search rules
-
-returns : tie.Need-returns
+pub returns-then-class-le32 : goal.returns-then-class-le32
 unfolding sizes
-returns c = rule c.before.args.class (omega arith) ∙ sym (size_is c.before.args.class (omega arith))
+returns-then-class-le32 c = rule c.args.class (omega arith) ∙ sym (size_is c.args.class (omega arith))
 
-returns-2 : tie.Need-returns-2
-returns-2 c = sym (size_none c.before.args.class (omega arith))
-
-pub size-of-spec : {M : Type 1} → statement M
-size-of-spec = tie.close (tie.spec mul-result array-read-result returns returns-2)
+pub returns-else-class-le32 : goal.returns-else-class-le32
+returns-else-class-le32 c = sym (size_none c.args.class (omega arith))
