@@ -13,8 +13,7 @@ fn init_settled(h: Heap, arena: &mut [u64], ledger: &[u64], start: u64, size: u6
     in_numbers(heap::init(h, arena, ledger, start, size))
 }
 
-#[unsafe(no_mangle)]
-pub extern "C" fn lavikety_heap_init(
+pub fn lavikety_heap_init(
     heap: &mut Heap,
     arena: &mut [u64],
     ledger: &[u64],
@@ -38,8 +37,7 @@ fn add_settled(h: Heap, arena: &mut [u64], ledger: &[u64], start: u64, end: u64)
     in_numbers(heap::add_to_heap(h, arena, ledger, start, end))
 }
 
-#[unsafe(no_mangle)]
-pub extern "C" fn lavikety_heap_add(
+pub fn lavikety_heap_add(
     heap: &mut Heap,
     arena: &mut [u64],
     ledger: &[u64],

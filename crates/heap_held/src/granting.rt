@@ -13,8 +13,7 @@ fn alloc_settled(h: Heap, arena: &mut [u64], ledger: &mut [u64], size: u64, alig
     in_numbers(heap::alloc(h, arena, ledger, size, align))
 }
 
-#[unsafe(no_mangle)]
-pub extern "C" fn lavikety_heap_alloc(
+pub fn lavikety_heap_alloc(
     heap: &mut Heap,
     arena: &mut [u64],
     ledger: &mut [u64],
@@ -45,8 +44,7 @@ fn dealloc_settled(
     in_numbers(heap::dealloc(h, arena, ledger, address, size, align))
 }
 
-#[unsafe(no_mangle)]
-pub extern "C" fn lavikety_heap_dealloc(
+pub fn lavikety_heap_dealloc(
     heap: &mut Heap,
     arena: &mut [u64],
     ledger: &mut [u64],
@@ -78,8 +76,7 @@ fn zero_settled(
     in_numbers(heap::zero_fill(h, arena, ledger, address, size, align))
 }
 
-#[unsafe(no_mangle)]
-pub extern "C" fn lavikety_heap_zero(
+pub fn lavikety_heap_zero(
     heap: &mut Heap,
     arena: &mut [u64],
     ledger: &[u64],

@@ -22,8 +22,7 @@ fn new_settled(h: Heap, arena: &[u64], ledger: &mut [u64], order: u64) -> Settle
     }
 }
 
-#[unsafe(no_mangle)]
-pub extern "C" fn lavikety_heap_new(
+pub fn lavikety_heap_new(
     heap: &mut Heap,
     arena: &[u64],
     ledger: &mut [u64],

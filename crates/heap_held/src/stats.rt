@@ -12,8 +12,7 @@ fn stats_alloc_user_numbers(h: Heap, arena: &[u64], ledger: &[u64]) -> CAnswer
     numbers(heap::stats_alloc_user(h, arena, ledger))
 }
 
-#[unsafe(no_mangle)]
-pub extern "C" fn lavikety_heap_stats_alloc_user(
+pub fn lavikety_heap_stats_alloc_user(
     heap: &Heap,
     arena: &[u64],
     ledger: &[u64],
@@ -30,8 +29,7 @@ fn stats_alloc_actual_numbers(h: Heap, arena: &[u64], ledger: &[u64]) -> CAnswer
     numbers(heap::stats_alloc_actual(h, arena, ledger))
 }
 
-#[unsafe(no_mangle)]
-pub extern "C" fn lavikety_heap_stats_alloc_actual(
+pub fn lavikety_heap_stats_alloc_actual(
     heap: &Heap,
     arena: &[u64],
     ledger: &[u64],
@@ -48,8 +46,7 @@ fn stats_total_bytes_numbers(h: Heap, arena: &[u64], ledger: &[u64]) -> CAnswer
     numbers(heap::stats_total_bytes(h, arena, ledger))
 }
 
-#[unsafe(no_mangle)]
-pub extern "C" fn lavikety_heap_stats_total_bytes(
+pub fn lavikety_heap_stats_total_bytes(
     heap: &Heap,
     arena: &[u64],
     ledger: &[u64],
