@@ -3,7 +3,7 @@ use mathlib.Core.Path.{◌≡◌, refl, sym, ap, ◌∙◌}
 use mathlib.Core.Bool.{Bool, true, false, true≢false}
 use mathlib.Core.List.Memᴰ
 use mathlib.Core.List.{List, [], ◌∷◌}
-use Prim.Native.Nat.{ℕ, zero, suc, ◌+◌, ◌-◌, ◌≤◌, ◌<◌}
+use Prim.Native.Nat.{ℕ, zero, suc, ◌+◌, ◌-◌, ◌^◌, ◌≤◌, ◌<◌}
 use native.Mathlib.Omega.{arith}
 use lib.Dec.{eqb}
 use lib.ListN.{length}
@@ -29,7 +29,7 @@ record FirstFree (k o i : ℕ) (bs : List Block) : Type 0 where
 
 first-free : {top f : ℕ} (k o i : ℕ) (bs : List Block) → Sound top f bs → first_from (free_in k) o bs ≡ At i → FirstFree k o i bs
 first-free k o i [] r e = absurd (somewhere (sym e))
-first-free k o i (blk g j s ∷ bs) (next l h a w r) e = go (free_in k (blk g j s)) refl (first-free k (o + 1) i bs r)
+first-free {f = f} k o i (blk g j s ∷ bs) (next l h a w r) e = go (free_in k (blk g j s)) refl (first-free {f = s + 2 ^ j} k (o + 1) i bs r)
   where
     here : (g : Bool) → free_in k (blk g j s) ≡ true → blk g j s ≡ blk false k s
     here true q = absurd (true≢false (sym q))

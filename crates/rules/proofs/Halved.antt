@@ -193,7 +193,7 @@ in-middle xs ws ys y = (λ m. ⊎_elim (λ n. inr (Memᴰ.append_left ys n)) (λ
 
 replaced : {top f : ℕ} (xs : List Block) {zs ws : List Block} → ((e : ℕ) → Sound top e zs → Sound top e ws) → Sound top f (xs ++ zs) → Sound top f (xs ++ ws)
 replaced {f} [] g r = g f r
-replaced (x ∷ xs) g (next l h a e r) = next l h a e (replaced xs g r)
+replaced {f = f} (_ ∷ xs) g (next {k = k} {s = s} l h a e r) = next l h a e (replaced {f = s + 2 ^ k} xs g r)
 
 module _ {top : ℕ} (c run j t : ℕ) (xs ys : List Block) (r : Sound top 0 (xs ++ (blk false j t ∷ ys))) where
   place : Stands top xs (blk false j t) ys

@@ -55,12 +55,12 @@ pub record Stands (top : ℕ) (xs : List Block) (b : Block) (ys : List Block) : 
 
 floor-le : {top f : ℕ} (xs : List Block) (b : Block) (ys : List Block) → Sound top f (xs ++ (b ∷ ys)) → f ≤ start b
 floor-le [] (blk g k s) ys (next l h a e r) = l
-floor-le (blk i j t ∷ xs) b ys (next l h a e r) = omega (arith, floor-le xs b ys r, pow_pos j)
+floor-le {f = f} (blk i j t ∷ xs) b ys (next l h a e r) = omega (arith, floor-le {f = t + 2 ^ j} xs b ys r, pow_pos j)
 
 pub stands : {top f : ℕ} (xs : List Block) (b : Block) (ys : List Block) → Sound top f (xs ++ (b ∷ ys)) → Stands top xs b ys
 stands [] (blk g k s) ys (next l h a e r) = record { before = none_below; small = h; aligned = a; within = e; after = r }
-stands (blk i j t ∷ xs) b ys (next l h a e r) =
-    let w = stands xs b ys r in
+stands {f = f} (blk i j t ∷ xs) b ys (next l h a e r) =
+    let w = stands {f = t + 2 ^ j} xs b ys r in
     let m : t + 2 ^ j ≤ start b = floor-le xs b ys r in
     record { before = and_below m w.before; small = w.small; aligned = w.aligned; within = w.within; after = w.after }
 

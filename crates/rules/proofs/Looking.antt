@@ -99,7 +99,7 @@ gap_from : {top floor : ℕ} (f o i : ℕ) (bs : List Block) → Sound top floor
 gap_from f o i [] r e =
     let h : o ≡ i = cc in
     record { n = 0; at = omega arith; here = omega arith; before = none_below; after = none_above }
-gap_from f o i (blk g k s ∷ bs) (next l h a w r) e = go (ltb f s) refl (ltb f (s + 2 ^ k)) refl (gap_from f (o + 1) i bs r)
+gap_from {floor = floor} f o i (blk g k s ∷ bs) (next l h a w r) e = go (ltb f s) refl (ltb f (s + 2 ^ k)) refl (gap_from {floor = s + 2 ^ k} f (o + 1) i bs r)
   where
     go : (x : Bool) → ltb f s ≡ x → (y : Bool) → ltb f (s + 2 ^ k) ≡ y → (place_from f (o + 1) bs ≡ Gap i → GapFrom f (o + 1) i bs)
         → GapFrom f o i (blk g k s ∷ bs)

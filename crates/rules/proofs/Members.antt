@@ -15,7 +15,7 @@ use Rattle.rules.specs.Aligned.{Aligned, Meets}
 use Rattle.rules.specs.Largest.{Tidy}
 use Rattle.rules.specs.Rules.{Block, blk, start, Sound, none, next, some, without, insert, block_at}
 use Rattle.rules.specs.Managed.{◌∈◌, Free, Is}
-use Rattle.rules.proofs.Lists.{Below, and_below}
+use Rattle.rules.proofs.Lists.{Below, none_below, and_below}
 
 -- ---- equal blocks
 
@@ -43,6 +43,7 @@ member-low {s} (next {s = t} l h a e r) (Memᴰ.head q) = let p : s ≡ t = cc i
 member-low (next l h a e r) (Memᴰ.tail m) = omega (arith, member-low r m)
 
 pub below-member : {f : ℕ} {bs : List Block} {g : Bool} {k s : ℕ} → Below f bs → blk g k s ∈ bs → s + 2 ^ k ≤ f
+below-member none_below m = absurd (Memᴰ.not-nil m)
 below-member {k} {s} (and_below {k = j} {s = t} l b) (Memᴰ.head q) =
     let p : s ≡ t = cc in
     let c : k ≡ j = cc in
@@ -103,8 +104,8 @@ pub same-members : {top f e : ℕ} (bs cs : List Block) → Sound top f bs → S
 same-members [] [] r q h = refl
 same-members [] (c ∷ cs) r q h = absurd (Memᴰ.not-nil ((h c).1 (Memᴰ.head refl)))
 same-members (b ∷ bs) [] r q h = absurd (Memᴰ.not-nil ((h b).0 (Memᴰ.head refl)))
-same-members {top} (blk g k s ∷ bs) (blk i j t ∷ cs) r q h =
-    ap₂ ◌∷◌ heads (same-members bs cs (tail-sound r) (tail-sound q) (λ b. (after-head r heads (λ y. (h y).0) b, after-head q (sym heads) (λ y. (h y).1) b)))
+same-members {top} {f = f} {e = e} (blk g k s ∷ bs) (blk i j t ∷ cs) r q h =
+    ap₂ ◌∷◌ heads (same-members {f = s + 2 ^ k} {e = t + 2 ^ j} bs cs (tail-sound r) (tail-sound q) (λ b. (after-head r heads (λ y. (h y).0) b, after-head q (sym heads) (λ y. (h y).1) b)))
   where
     pick : (blk g k s ≡ blk i j t) ⊎ (blk g k s ∈ cs) → (blk i j t ≡ blk g k s) ⊎ (blk i j t ∈ bs) → blk g k s ≡ blk i j t
     pick (inl e) m = e
@@ -130,6 +131,7 @@ some-passes p (b ∷ bs) e = go (p b) refl (some-passes p bs)
     go false q ih = let w = ih (rw q at e) in record { block = w.block; member = Memᴰ.tail w.member; passes = w.passes }
 
 pub some-fails : (p : Block → Bool) {bs : List Block} {b : Block} → some p bs ≡ false → b ∈ bs → p b ≡ false
+some-fails p {bs = []} e m = absurd (Memᴰ.not-nil m)
 some-fails p {bs = x ∷ bs} {b} e m = go (p x) refl m (λ h. some-fails p {bs = bs} {b = b} h)
   where
     go : (t : Bool) → p x ≡ t → b ∈ (x ∷ bs) → (some p bs ≡ false → b ∈ bs → p b ≡ false) → p b ≡ false
@@ -137,7 +139,7 @@ some-fails p {bs = x ∷ bs} {b} e m = go (p x) refl m (λ h. some-fails p {bs =
     go false q (Memᴰ.head h) ih = rw h q
     go false q (Memᴰ.tail n) ih = ih (rw q at e) n
 
-pub some-member : (p : Block → Bool) {bs : List Block} {b : Block} → b ∈ bs → p b ≡ true → some p bs ≡ true
+pub some-member : (p : Block → Bool) {b : Block} {bs : List Block} → b ∈ bs → p b ≡ true → some p bs ≡ true
 some-member p (Memᴰ.head {x} {xs} h) e = let q : p x ≡ true = ap p (sym h) ∙ e in rw q refl
 some-member p (Memᴰ.tail {x} {xs} m) e = rw (some-member p m e) (or-true (p x))
 
@@ -196,6 +198,7 @@ in_without p (b ∷ bs) {x} m = go (p b) refl (in_without p bs)
         ⊎_elim (λ h. (Memᴰ.head h, rw h e)) (λ n. let w = ih n in (Memᴰ.tail w.0, w.1)) (Memᴰ.cases_cons (rw (e, without) at m))
 
 pub without-has : (p : Block → Bool) {bs : List Block} {x : Block} → x ∈ bs → p x ≡ false → x ∈ without p bs
+without-has p {bs = []} m f = absurd (Memᴰ.not-nil m)
 without-has p {bs = b ∷ bs} {x} m f = go (p b) refl m (λ n. without-has p {bs = bs} {x = x} n f)
   where
     go : (t : Bool) → p b ≡ t → x ∈ (b ∷ bs) → (x ∈ bs → x ∈ without p bs) → x ∈ without p (b ∷ bs)

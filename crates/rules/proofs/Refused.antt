@@ -9,7 +9,7 @@ use native.Mathlib.Decide.{dec_lt}
 use borrow.Author.Tests.{le-leb}
 use Rattle.rules.specs.Aligned.{Aligned}
 use Rattle.rules.specs.Largest.{Whole, Held}
-use Rattle.rules.specs.Rules.{Block, blk, class, start, block_at, first_from, free_in, smallest, serving, contains, containing}
+use Rattle.rules.specs.Rules.{Block, blk, start, block_at, first_from, free_in, smallest, serving, contains, containing}
 use Rattle.rules.specs.declared.Found.{Found}
 use Rattle.rules.specs.declared.Found.TheVariants.{At, Nowhere}
 use Rattle.rules.specs.Managed.{Free, Within, Spare, Lacks, Kept}
