@@ -1,5 +1,4 @@
 -- `words::scan::zeros_one_row` meets its contract. Assumes nothing.
-use Prim.Native.Nat.{◌-◌}
 use mathlib.Core.Path.{refl}
 use native.Mathlib.Omega.{arith}
 use Rattle.words.proofs.Zeros.{row-start, row-or, one-row}

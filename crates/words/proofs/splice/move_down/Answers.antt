@@ -1,8 +1,8 @@
 -- `words::splice::move_down` meets its contract: the words below k have moved. Assumes nothing.
 use mathlib.Core.Path.{◌≡◌, refl, ap, ◌∙◌}
-use Prim.Native.Nat.{ℕ, ◌-◌}
+use Prim.Native.Nat.{ℕ}
 use native.Mathlib.Omega.{arith}
-use lib.ListN.{length, length-set}
+use lib.ListN.{length-set}
 use Rattle.words.proofs.Moving.{moved_down, down_turn, down-none}
 use Rattle.words.proofs.splice.move_down.Goals as goal
 

@@ -1,6 +1,6 @@
 -- `words::splice::move_up` meets its contract: the words from k on have moved. Assumes nothing.
 use mathlib.Core.Path.{◌≡◌}
-use Prim.Native.Nat.{◌-◌, ◌≤◌}
+use Prim.Native.Nat.{◌≤◌}
 use lib.ListN.{length}
 use Rattle.words.proofs.Moving.{moved_up}
 use Rattle.words.proofs.splice.move_up.Given as goal

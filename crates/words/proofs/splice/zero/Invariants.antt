@@ -1,6 +1,6 @@
 -- `words::splice::zero` meets its contract: the words from k on are zero. Assumes nothing.
 use mathlib.Core.Path.{◌≡◌}
-use Prim.Native.Nat.{◌-◌, ◌≤◌}
+use Prim.Native.Nat.{◌≤◌}
 use lib.ListN.{length}
 use Rattle.words.proofs.Moving.{zeroed}
 use Rattle.words.proofs.splice.zero.Given as goal
