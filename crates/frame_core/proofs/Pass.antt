@@ -1,5 +1,5 @@
 -- The pass over the records that finds the block which serves a grant: one record at a time. Assumes nothing.
-use Rattle.std.proofs.Common.{◌≡◌, ℕ, ◌+◌, ◌-◌, ◌%◌, ◌^◌, ◌<◌, ◌≤◌, Bool, true, false, ◌&&◌, eqb, ltb, leb, List, ◌∷◌, map, length, get_or, sym, refl, ap, ◌∙◌, true≢false, add-one, arith, ltb-false, ltb-true, le-ltb, lt-ltb, ne_eqb, leb-false, leb-true}
+use Rattle.std.proofs.Common.{◌≡◌, ℕ, ◌+◌, ◌-◌, ◌%◌, ◌^◌, ◌<◌, ◌≤◌, Bool, true, false, ◌&&◌, eqb, ltb, leb, List, ◌∷◌, length, get_or, sym, refl, ap, ◌∙◌, true≢false, arith, ltb-false, ltb-true, le-ltb, lt-ltb, ne_eqb, leb-false, leb-true}
 use borrow.Author.Tests.{eqb-false}
 use Rattle.rules.specs.Rules.{Block, blk, smallest, or_else, free_in}
 use Rattle.rules.specs.declared.Found.{Found}

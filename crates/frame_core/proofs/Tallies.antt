@@ -1,8 +1,8 @@
 -- The pass over the records that counts their frames: one record at a time. Assumes nothing.
-use Rattle.std.proofs.Common.{◌≡◌, ℕ, ◌+◌, ◌-◌, ◌^◌, ◌<◌, ◌≤◌, max, Bool, true, false, eqb, List, [], ◌∷◌, length, get_or, sym, refl, ap, ◌∙◌, add-zero, add_assoc, zero-add, arith}
+use Rattle.std.proofs.Common.{◌≡◌, ℕ, ◌+◌, ◌-◌, ◌^◌, ◌<◌, ◌≤◌, max, Bool, true, false, eqb, List, ◌∷◌, get_or, sym, refl, ap, ◌∙◌, add-zero, add_assoc, zero-add, arith}
 use native.Mathlib.Nat.{zero-max, max-zero}
 use Rattle.rules.specs.Rules.{Block, blk, Sound, none, next, granted, frames_of, largest_free}
-use Rattle.table.specs.Layout.{count_of, mark_of, class_of, start_of, block_of, blocks_of}
+use Rattle.table.specs.Layout.{count_of, mark_of, class_of, block_of, blocks_of}
 use Rattle.table.specs.Sound.{soundb}
 use Rattle.table.proofs.Facts.{sound-fact}
 use Rattle.table.proofs.State.{sound-blocks}
