@@ -15,7 +15,7 @@ pub returns-then-chunk-from : goal.returns-then-chunk-from
 returns-then-chunk-from c =
     let a = c.args in
     let none : drop a.from a.chunk.now ≡ [] = drop_of_length-le a.chunk.now {i = a.from} (omega arith) in
-    rw none (nothing_left a.from (length a.held.now) a.len, refl)
+    record { value = rw none (nothing_left a.from (length a.held.now) a.len); held_after = rw none refl }
 
 pub slice_bounds-put-end : goal.slice_bounds-put-end
 slice_bounds-put-end c = sym (length-take-le c.piece_end-n.result _ c.piece_end-n.ensures.within)
@@ -27,10 +27,10 @@ returns-then-n-rest c =
     let bs = drop a.from a.chunk.now in
     let whole = tail-whole a.chunk.now a.from in
     let line = subst (λ (r : List ℕ). PieceEnds 10 r n) whole c.piece_end-n.ensures in
-    let kept = subst (λ (r : List ℕ). Put (take n r) a.held.now a.len c.put-kept.result c.put-kept.new.1.0) whole c.put-kept.ensures in (
-      ended_here bs n a.from (length a.held.now) a.len c.put-kept.result line kept.place (omega (arith, length-drop a.from a.chunk.now)),
-      kept.bytes ∙ ap (sets a.held.now a.len) (sym (line-here bs n line)),
-    )
+    let kept = subst (λ (r : List ℕ). Put (take n r) a.held.now a.len c.put-kept.result c.put-kept.new.out) whole c.put-kept.ensures in record {
+      value = ended_here bs n a.from (length a.held.now) a.len c.put-kept.result line kept.place (omega (arith, length-drop a.from a.chunk.now));
+      held_after = kept.bytes ∙ ap (sets a.held.now a.len) (sym (line-here bs n line));
+    }
 
 pub returns : goal.returns
 returns c =
@@ -39,7 +39,7 @@ returns c =
     let bs = drop a.from a.chunk.now in
     let whole = tail-whole a.chunk.now a.from in
     let line = subst (λ (r : List ℕ). PieceEnds 10 r n) whole c.piece_end-n.ensures in
-    let kept = subst (λ (r : List ℕ). Put (take n r) a.held.now a.len c.put-kept.result c.put-kept.new.1.0) whole c.put-kept.ensures in (
-      open-here bs n a.from (length a.held.now) a.len c.put-kept.result line kept.place (omega (arith, length-drop a.from a.chunk.now)),
-      kept.bytes ∙ ap (sets a.held.now a.len) (sym (line-here bs n line)),
-    )
+    let kept = subst (λ (r : List ℕ). Put (take n r) a.held.now a.len c.put-kept.result c.put-kept.new.out) whole c.put-kept.ensures in record {
+      value = open-here bs n a.from (length a.held.now) a.len c.put-kept.result line kept.place (omega (arith, length-drop a.from a.chunk.now));
+      held_after = kept.bytes ∙ ap (sets a.held.now a.len) (sym (line-here bs n line));
+    }

@@ -1,11 +1,8 @@
 -- `lines::pieces::piece_end` meets its contract. The loop's invariant: no byte that was passed is the separator. Assumes nothing.
-use Prim.Native.Nat.{◌-◌}
 use borrow.Author.Count.{below_none, below_more}
 use borrow.Author.Rules.{rules}
 use native.Mathlib.Omega.{arith}
 use Rattle.lines.proofs.Cutting.{cut_at}
-use Rattle.lines.proofs.pieces.piece_end.Reads as reads
-use Rattle.lines.proofs.pieces.piece_end.Lts as lts
 use Rattle.lines.proofs.pieces.piece_end.Goals as goal
 
 -- src/pieces.rt:9:5

@@ -2,8 +2,6 @@
 use Prim.Native.Nat.{ℕ, ◌<◌, ◌≤◌, ◌-◌}
 use mathlib.Core.Path.{◌≡◌}
 use lib.ListN.{length, get_or}
-use Rattle.lines.proofs.pieces.piece_end.Reads as reads
-use Rattle.lines.proofs.pieces.piece_end.Lts as lts
 use Rattle.lines.proofs.pieces.piece_end.Given as goal
 
 abbrev pub invariant-loop-i : goal.invariant-loop-i
