@@ -1,16 +1,15 @@
 -- Words as numbers: what the loop over a word's bytes goes by.
 use mathlib.Core.Bool.{Bool, true, false, cond, ◌&&◌}
 use mathlib.Core.List.{List, [], ◌∷◌}
-use mathlib.Core.Path.{◌≡◌, refl, sym, ap, ◌∙◌}
-use Prim.Native.Nat.{ℕ, zero, suc, ◌+◌, ◌-◌, ◌*◌, ◌^◌, ◌<◌, ◌≤◌}
+use mathlib.Core.Path.{◌≡◌, refl, sym}
+use Prim.Native.Nat.{ℕ, ◌+◌, ◌-◌, ◌*◌, ◌^◌, ◌<◌, ◌≤◌}
 use native.Mathlib.Numerals.{add-one}
 use native.Mathlib.Omega.{arith}
 use borrow.Author.Tests.{lt-ltb, le-ltb, le-leb, lt-leb}
-use lib.Dec.{leb, ltb}
+use lib.Dec.{ltb}
 use lib.ListN.{length, get_or, drop}
 use lib.Seq.{drop-cons}
 use Rattle.grammar.specs.Line.{is_digit, all_digits, value_on, number_of}
-use Rattle.grammar.specs.declared.Number.{Number}
 use Rattle.grammar.specs.declared.Number.TheVariants.{Value, NotANumber}
 
 -- ---- one byte of a word

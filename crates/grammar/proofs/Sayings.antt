@@ -2,15 +2,15 @@
 use mathlib.Core.Bool.{Bool, true, false, cond, ◌&&◌}
 use mathlib.Core.List.{List, [], ◌∷◌, ◌++◌}
 use mathlib.Core.Path.{◌≡◌, refl, sym, ap, subst, ◌∙◌}
-use Prim.Native.Nat.{ℕ, zero, suc, ◌+◌, ◌<◌, ◌≤◌}
+use Prim.Native.Nat.{ℕ, ◌+◌, ◌<◌, ◌≤◌}
 use native.Mathlib.Omega.{arith}
 use borrow.Author.Tests.{eqb-true, eq-eqb, le-leb, lt-leb, leb-true, leb-false}
 use lib.Dec.{eqb, leb}
 use lib.ListN.{length, take, length-append, length-take}
 use lib.Seq.{take_all}
-use Rattle.grammar.specs.Line.{Numbers, all, not_all, before, numbers_of, Line, said, bad, saying, of_words, line_of, same}
+use Rattle.grammar.specs.Line.{Numbers, all, not_all, before, numbers_of, said, bad, saying, line_of, same}
 use Rattle.grammar.specs.Next.{NextIs}
-use Rattle.lines.specs.Pieces.{cut, pieces_after, PieceEnds}
+use Rattle.lines.specs.Pieces.{pieces_after, PieceEnds}
 use Rattle.grammar.specs.declared.Next.{Next}
 use Rattle.grammar.specs.declared.Next.TheVariants.{End, Number, Wrong}
 use Rattle.grammar.specs.declared.Number.TheVariants.{Value}

@@ -56,7 +56,7 @@ pub fn named(line: &[u8], len: usize, name: &[u8]) -> bool
     ensures { result ≡ same (take len line.now) name.now }
 {
     if line.len() < len {
-        return check::same(line, name);
+        return line == name;
     }
-    check::same(&line[..len], name)
+    &line[..len] == name
 }

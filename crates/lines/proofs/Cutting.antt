@@ -5,8 +5,8 @@ use mathlib.Core.Path.{◌≡◌, refl, sym, ap, ◌∙◌}
 use Prim.Native.Nat.{ℕ, zero, suc, ◌+◌, ◌-◌, ◌<◌, ◌≤◌}
 use native.Mathlib.Nat.{suc-add, add_assoc}
 use native.Mathlib.Omega.{arith}
-use borrow.Author.Tests.{ltb-true, ltb-false, lt-ltb, le-ltb, eq-eqb, ne_eqb}
-use lib.Dec.{eqb, ltb, leb-suc-suc}
+use borrow.Author.Tests.{ltb-true, lt-ltb, eq-eqb, ne_eqb}
+use lib.Dec.{ltb, leb-suc-suc}
 use lib.ListN.{length, get_or, take, drop, length-drop}
 use lib.Seq.{drop-drop, take_all}
 use Rattle.lines.specs.Pieces.{onto, cut, pieces_after, PieceEnds}

@@ -1,6 +1,6 @@
 -- Lines run one after the other, and what a program that reads an input in chunks promises of it: over any state, and any step by which a line changes it.
 use Rattle.std.specs.Prelude.{List, [], ◌∷◌, ◌≡◌, ℕ, take}
-use Rattle.lines.specs.Gather.{Reading, fed, last_line}
+use Rattle.lines.specs.Gather.{fed, last_line}
 
 abbrev pub after_all : {S : Type 0} → (List ℕ → S → S) → List (List ℕ) → S → S
 after_all step [] s = s

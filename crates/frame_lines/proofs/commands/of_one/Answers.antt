@@ -1,0 +1,12 @@
+-- `frame_lines::commands::of_one` meets its contract: the first name that the line has. Assumes nothing.
+use mathlib.Core.Path.{sym, ◌∙◌}
+use Rattle.frame_lines.proofs.commands.of_one.Goals as goal
+
+pub returns-then-named : goal.returns-then-named
+returns-then-named c = rw (sym c.named.ensures ∙ c.if-named.true)
+
+pub returns-then-named-2 : goal.returns-then-named-2
+returns-then-named-2 c = rw (sym c.named.ensures ∙ c.if-named.false, sym c.named-2.ensures ∙ c.if-named-2.true)
+
+pub returns : goal.returns
+returns c = rw (sym c.named.ensures ∙ c.if-named.false, sym c.named-2.ensures ∙ c.if-named-2.false)
