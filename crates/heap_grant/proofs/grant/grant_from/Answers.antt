@@ -1,0 +1,34 @@
+-- `heap_grant::grant::grant_from` meets its contract: the block that came out, entered into the ledger. Assumes nothing.
+use native.Mathlib.Omega.{arith}
+use Rattle.blocks.proofs.Rounding.{size_is}
+use Rattle.heap_state.specs.State.{state}
+use Rattle.heap_blocks.proofs.Facts.{sound-fact}
+use Rattle.heap_core.proofs.Kept.{kept}
+use Rattle.heap_grant.proofs.Granting.{servable, fits, block-is, grant-says, done-not-refused}
+use borrow.Author.Rules.{rules}
+use Rattle.heap_grant.proofs.grant.grant_from.Goals as goal
+
+pub take_block-answer-requires : goal.take_block-answer-requires
+take_block-answer-requires c =
+    servable (state c.args.h c.args.arena.now c.args.ledger.now) c.args.from c.args.class c.args.size c.requires (search rules)
+
+pub returns-in_default : goal.returns-in_default
+returns-in_default c = absurd (done-not-refused _ _ _ c.take_block-answer.ensures.answer c.in_default.is)
+
+pub enter-requires : goal.enter-requires
+enter-requires c =
+    let f = fits (state c.args.h c.args.arena.now c.args.ledger.now) c.args.from c.args.class c.args.size c.requires (search rules) in
+    let b = block-is (state c.args.h c.args.arena.now c.args.ledger.now) c.args.from c.args.class c.args.size c.requires (search rules) _ _ _ _ c.take_block-answer.ensures c.in-Done.is in
+    ((c.args.h.order, kept (state c.args.h c.args.arena.now c.args.ledger.now) (sound-fact _ _ _ c.requires.sound)), c.requires.room, f.class-fits, f.size_fits, omega (arith, f.block-fits, b))
+
+pub overflow_add-g-2 : goal.overflow_add-g-2
+overflow_add-g-2 c =
+    omega (arith, (fits (state c.args.h c.args.arena.now c.args.ledger.now) c.args.from c.args.class c.args.size c.requires (search rules)).user-fits)
+
+pub overflow_add-g-3 : goal.overflow_add-g-3
+overflow_add-g-3 c =
+    omega (arith, (fits (state c.args.h c.args.arena.now c.args.ledger.now) c.args.from c.args.class c.args.size c.requires (search rules)).allocated-fits, c.size_of.ensures, size_is c.args.class (omega (arith, c.requires.suffices, c.requires.is-class)))
+
+pub returns : goal.returns
+returns c =
+    grant-says (state c.args.h c.args.arena.now c.args.ledger.now) c.args.from c.args.class c.args.size c.requires (search rules) _ _ _ _ c.take_block-answer.ensures c.in-Done.is _ _ c.enter.ensures c.size_of.ensures
