@@ -1,0 +1,17 @@
+-- `heap::zero_fill` meets its contract: the soundness test, then the part that does the call. Assumes nothing.
+use mathlib.Core.Path.{sym, ◌∙◌}
+use Rattle.heap.specs.Outcome.{ZeroFill, decide}
+use Rattle.heap.proofs.Shells.{unsound, decided}
+use Rattle.heap.proofs.zero_fill.Goals as goal
+
+pub returns-then-not-sound : goal.returns-then-not-sound
+returns-then-not-sound c =
+    unsound c.args.h c.args.arena.now c.args.ledger.now (ZeroFill c.args.address c.args.size c.args.align) (sym c.sound.ensures ∙ c.if-not-sound.true)
+
+pub zero_bytes-requires : goal.zero_bytes-requires
+zero_bytes-requires c = sym c.sound.ensures ∙ c.if-not-sound.false
+
+pub returns : goal.returns
+unfolding decide
+returns c =
+    decided c.args.h c.args.arena.now c.args.ledger.now (ZeroFill c.args.address c.args.size c.args.align) (sym c.sound.ensures ∙ c.if-not-sound.false) c.zero_bytes.ensures
