@@ -4,9 +4,9 @@ use mathlib.Core.List.{List, [], ◌∷◌}
 use Prim.Native.Nat.{ℕ}
 use Rattle.answers.specs.declared.Answer.{Answer}
 use Rattle.answers.specs.Paper.{paper}
-use Rattle.frame_core.specs.Carried.{Reply, Outcome, Says, reply_of}
-use Rattle.frame.specs.Outcome.{Call, outcome, making}
-use Rattle.frame.specs.Told.{Made, Chain, replies, last}
+use Rattle.frame_core.specs.Carried.{Reply}
+use Rattle.frame.specs.Outcome.{Call}
+use Rattle.frame.specs.Told.{Made, Chain, last}
 use Rattle.frame.proofs.Chains.{chain-is}
 use Rattle.frame_laws.specs.History.{World, Reached, after, fresh}
 

@@ -1,16 +1,15 @@
 -- Soundness is kept by every call, and nothing is left to join where no range touches. Assumes nothing.
-use mathlib.Core.Path.{◌≡◌, refl, sym, ap, subst, ◌∙◌}
+use mathlib.Core.Path.{◌≡◌, refl, sym, ap, ◌∙◌}
 use mathlib.Core.Bool.{true}
 use mathlib.Core.List.{List}
 use Prim.Native.Nat.{ℕ, ◌-◌, ◌≤◌, ◌<◌}
 use native.Mathlib.Omega.{arith}
 use lib.ListN.{length, get_or}
-use Rattle.answers.specs.Paper.{number_of}
 use Rattle.answers.specs.Judging.{refused, done}
 use Rattle.rules.specs.Largest.{Joined}
 use Rattle.rules.specs.Rules.{Block, Sound}
 use Rattle.rules.specs.Managed.{Free, Touches, Kept}
-use Rattle.table.specs.Layout.{State, order_of, count_of, blocks_of, state_of, words_of}
+use Rattle.table.specs.Layout.{State, order_of, blocks_of, words_of}
 use Rattle.table.specs.Sound.{soundb}
 use Rattle.table.proofs.Facts.{sound-fact}
 use Rattle.table.proofs.State.{state, sound-blocks, length-blocks, state-back, table-sound}
@@ -18,7 +17,7 @@ use Rattle.frame_core.specs.Deciding.{Decision}
 use Rattle.frame_core.specs.Carried.{Outcome, carried}
 use Rattle.frame.specs.Outcome.{Call, Add, zeros, decide, outcome}
 use Rattle.frame_laws.specs.Demand3 as say
-use Rattle.frame_laws.proofs.Tables.{Stands, stands-outcome}
+use Rattle.frame_laws.proofs.Tables.{stands-outcome}
 use Rattle.frame_laws.proofs.Effects.{Effect, refuses, adds, grants, gives, sums, effect}
 use Rattle.frame_laws.proofs.Reaching.{reached}
 

@@ -1,5 +1,5 @@
 -- From a freshly made table on: what has happened is what the table says. Assumes nothing.
-use mathlib.Core.Path.{◌≡◌, refl, sym, ap, subst, ◌∙◌}
+use mathlib.Core.Path.{◌≡◌, refl, sym, subst}
 use mathlib.Core.Logic.{◌↔◌}
 use mathlib.Core.Bool.{Bool, true, false, ◌||◌}
 use mathlib.Core.List.Memᴰ
@@ -10,15 +10,13 @@ use lib.Dec.{ltb}
 use lib.ListN.{length}
 use borrow.Author.Tests.{ltb-false}
 use Rattle.words.proofs.Tests.{not-either}
-use Rattle.rules.specs.Largest.{Covered}
-use Rattle.rules.specs.Rules.{Block, Sound, none}
-use Rattle.rules.specs.Managed.{Granted, Spare, Kept}
+use Rattle.rules.specs.Rules.{none}
+use Rattle.rules.specs.Managed.{Spare, Kept}
 use Rattle.rules.proofs.Unique.{free-are-largest, largest-same}
-use Rattle.table.proofs.State.{state}
 use Rattle.frame.specs.Outcome.{making}
 use Rattle.frame_laws.specs.History.{World, Reached, fresh, NoTouch, FreeFrame}
 use Rattle.frame_laws.specs.Demand3 as say
-use Rattle.frame_laws.proofs.Tables.{Stands, stands-blocks, stands-sound}
+use Rattle.frame_laws.proofs.Tables.{stands-blocks, stands-sound}
 use Rattle.frame_laws.proofs.Steps.{Known, after-known}
 
 -- a table that was just made

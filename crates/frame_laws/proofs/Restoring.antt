@@ -1,14 +1,13 @@
 -- A grant followed by its release restores every word, and releases end in the same words in every order. Assumes nothing.
 use mathlib.Core.Path.{◌≡◌, refl, sym, ap, subst, ◌∙◌}
 use mathlib.Core.Logic.Iff
-use mathlib.Core.Logic.{◌↔◌, inl, inr, ⊎_elim}
-use mathlib.Core.Bool.{true, false, not, true≢false}
+use mathlib.Core.Logic.{⊎_elim}
+use mathlib.Core.Bool.{true, false, true≢false}
 use mathlib.Core.List.Memᴰ
 use mathlib.Core.List.{List, [], ◌∷◌}
-use Prim.Native.Nat.{ℕ, suc, ◌-◌, ◌≤◌, ◌<◌}
+use Prim.Native.Nat.{ℕ, suc, ◌-◌, ◌≤◌}
 use native.Mathlib.Omega.{arith}
 use lib.ListN.{length, get_or}
-use Rattle.answers.specs.Paper.{number_of}
 use Rattle.answers.specs.Judging.{done}
 use Rattle.blocks.specs.Blocks.{rounded, rounded_aligned}
 use Rattle.rules.specs.Rules.{Block, blk, granted, some, is_granted, released}

@@ -1,27 +1,26 @@
 -- The table and what has happened to it agree after every call. Assumes nothing.
 use mathlib.Core.Path.{◌≡◌, refl, sym, ap, subst, ◌∙◌}
 use mathlib.Core.Logic.{◌↔◌, ◌⊎◌, inl, inr, ⊎_elim}
-use mathlib.Core.Bool.{Bool, true, false, ◌||◌, true≢false}
+use mathlib.Core.Bool.{Bool, true, false, true≢false}
 use mathlib.Core.List.Memᴰ
 use mathlib.Core.List.{List, [], ◌∷◌, Memᴰ}
 use Prim.Native.Nat.{ℕ, ◌-◌, ◌≤◌, ◌<◌}
 use native.Mathlib.Omega.{arith}
-use lib.Dec.{eqb, ltb}
+use lib.Dec.{ltb}
 use lib.ListN.{length}
 use borrow.Author.Tests.{ne_eqb, ltb-true, ltb-false}
 use Rattle.answers.specs.Paper.{number_of}
-use Rattle.answers.specs.Judging.{refused, done}
+use Rattle.answers.specs.Judging.{done}
 use Rattle.rules.specs.Largest.{Joined}
-use Rattle.rules.specs.Rules.{Block, blk, Sound, none, is_granted, without}
+use Rattle.rules.specs.Rules.{Block, blk, Sound, is_granted, without}
 use Rattle.rules.specs.Managed.{Free, Granted, Is, Managed, Within, Touches, Leaves}
 use Rattle.rules.proofs.Members.{is_block, same_block, in_without, without-has}
 use Rattle.rules.proofs.Putting.{knows-granted}
 use Rattle.table.specs.Layout.{State, state_of, words_of}
-use Rattle.table.proofs.State.{state}
 use Rattle.frame_core.specs.Deciding.{Decision}
 use Rattle.frame_core.specs.Carried.{Outcome, carried}
-use Rattle.frame.specs.Outcome.{Call, Add, zeros, decide, outcome, making}
-use Rattle.frame_laws.specs.History.{Range, range, History, granted, released, accepted, noted, World, step, after, fresh, Touch, TouchesNone, alone, nor, NoTouch, none, and, Added}
+use Rattle.frame.specs.Outcome.{Call, Add, zeros, decide}
+use Rattle.frame_laws.specs.History.{Range, range, History, granted, released, accepted, noted, World, step, after, Touch, TouchesNone, alone, nor, NoTouch, and, Added}
 use Rattle.frame_laws.specs.Demand3.{alloc, alloc-aligned, Grants, any, alloc_at, Releases, dealloc, dealloc-aligned}
 use Rattle.frame_laws.proofs.Tables.{Stands, stands-length, stands-state, stands-outcome}
 use Rattle.frame_laws.proofs.Effects.{Effect, refuses, adds, grants, gives, sums, effect}

@@ -1,22 +1,20 @@
 -- The premise of demand 3: what it is for two ranges to touch, that it is needed, and that it can be met. Assumes nothing.
 use mathlib.Core.Path.{◌≡◌, refl}
-use mathlib.Core.Logic.{◌↔◌}
 use mathlib.Core.Bool.{true, false}
 use mathlib.Core.List.Memᴰ
 use mathlib.Core.List.{List, [], ◌∷◌}
-use Prim.Native.Nat.{ℕ, suc, ◌-◌, ◌≤◌, ◌<◌}
+use Prim.Native.Nat.{ℕ, ◌-◌, ◌<◌}
 use native.Mathlib.Omega.{arith}
 use native.Mathlib.Decide.{dec_lt}
 use lib.Count.{count_trailing_zeros}
 use Rattle.blocks.specs.Blocks.{size_of, size_class, first_holding, rounded, largest_power, prev_power_of_two, lowest_bit, lowest_or_top, piece_size}
-use Rattle.rules.specs.Aligned.{Aligned}
-use Rattle.rules.specs.Rules.{Block, blk, cut_from, cut, added, towards, serving, halved}
+use Rattle.rules.specs.Rules.{blk, cut_from, cut, added, towards, serving, halved}
 use Rattle.table.specs.Layout.{blocks_of}
 use Rattle.table.specs.Sound.{headb, recordb, soundb}
 use Rattle.frame_add.specs.Adding.{adding}
 use Rattle.frame_grant.specs.Granting.{granting}
 use Rattle.frame.specs.Outcome.{Call, Add, Alloc, decide, outcome, making}
-use Rattle.frame_laws.specs.History.{range, History, World, Reached, after, fresh, Touch, TouchesNone, alone, nor, NoTouch, none, and, Added, FreeFrame}
+use Rattle.frame_laws.specs.History.{range, World, Reached, after, fresh, Touch, alone, nor, NoTouch, none, and, Added, FreeFrame}
 use Rattle.frame_laws.specs.Demand3.{Near}
 use Rattle.frame_laws.specs.Demand3 as say
 

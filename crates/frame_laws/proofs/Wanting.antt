@@ -1,28 +1,25 @@
 -- When a request is refused for want of a block. Assumes nothing.
-use mathlib.Core.Path.{◌≡◌, refl, sym, ap, ◌∙◌}
+use mathlib.Core.Path.{◌≡◌, refl, ap, ◌∙◌}
 use mathlib.Core.Logic.{◌↔◌}
-use mathlib.Core.Bool.{Bool, true, false, not}
+use mathlib.Core.Bool.{Bool, true, false}
 use mathlib.Core.List.{List, [], ◌∷◌}
-use Prim.Native.Nat.{ℕ, ◌+◌, ◌-◌, ◌%◌, ◌^◌, ◌≤◌, ◌<◌}
+use Prim.Native.Nat.{ℕ, ◌-◌, ◌%◌, ◌^◌, ◌<◌}
 use native.Mathlib.Omega.{arith}
-use lib.Dec.{ltb, leb, eqb}
+use lib.Dec.{ltb}
 use lib.ListN.{length}
 use borrow.Author.Tests.{lt-leb, eq-eqb}
-use Rattle.answers.specs.Judging.{refuse, judge}
+use Rattle.answers.specs.Judging.{judge}
 use Rattle.blocks.specs.Blocks.{rounded}
 use Rattle.rules.specs.declared.Found.{Found}
 use Rattle.rules.specs.declared.Found.TheVariants.{At, Nowhere}
 use Rattle.rules.specs.Aligned.{Aligned}
-use Rattle.rules.specs.Largest.{Whole}
 use Rattle.rules.specs.Rules.{Block, start, serving, containing, block_at, halved}
-use Rattle.rules.specs.Managed.{Spare, Lacks}
 use Rattle.rules.proofs.Best.{somewhere}
 use Rattle.rules.proofs.Refused.{serving-refused, containing-refused}
-use Rattle.frame_core.specs.Deciding.{Decision, no_room, wanted}
-use Rattle.frame_core.specs.Carried.{Outcome, carried}
-use Rattle.frame_grant.specs.Granting.{is_nowhere, granting, granting_at}
-use Rattle.frame.specs.Outcome.{Call, AllocAt, zeros, decide, outcome}
-use Rattle.frame_laws.specs.History.{FreeFrame}
+use Rattle.frame_core.specs.Deciding.{Decision, wanted}
+use Rattle.frame_core.specs.Carried.{carried}
+use Rattle.frame_grant.specs.Granting.{granting, granting_at}
+use Rattle.frame.specs.Outcome.{Call, AllocAt, zeros, decide}
 use Rattle.frame_laws.specs.Demand3.{Requests, alloc, alloc-aligned}
 use Rattle.frame_laws.specs.Demand3 as say
 use Rattle.frame_laws.proofs.Tables.{stands-outcome}

@@ -8,7 +8,7 @@ use Rattle.rules.specs.Managed.{◌∈◌, Free, Distinct, Kept, Touches, Within
 use Rattle.table.specs.Layout.{order_of, blocks_of}
 use Rattle.table.specs.Sound.{soundb}
 use Rattle.frame_core.specs.Deciding.{wanted}
-use Rattle.frame_core.specs.Carried.{Reply, Outcome}
+use Rattle.frame_core.specs.Carried.{Reply}
 use Rattle.frame.specs.Outcome.{Call, Add, Alloc, AllocAligned, AllocAt, Dealloc, DeallocAligned, outcome, making}
 use Rattle.frame.specs.Told.{replies, last}
 use Rattle.frame_laws.specs.History.{World, Reached, range, Touch, NoTouch, FreeFrame}

@@ -1,4 +1,3 @@
 // Theorems alone: demand 3 over the words of frame tables. specs/Demand3.antt has the statements, proofs/ their proofs.
 
 #![tactic(auto)]
-
