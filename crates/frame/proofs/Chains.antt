@@ -7,7 +7,6 @@ use lib.ListN.{get_or}
 use Rattle.answers.specs.declared.Answer.{Answer}
 use Rattle.answers.specs.declared.Answer.TheVariants as answer
 use Rattle.answers.proofs.Apart.{answer_of, back, tells-apart}
-use Rattle.frame_core.specs.declared.tally.Figures.{Figures}
 use Rattle.frame_core.specs.Carried.{Reply, Outcome, reply_of, Says}
 use Rattle.frame.specs.declared.Report.{Report}
 use Rattle.frame.specs.declared.Report.TheVariants.{Of, Refused}

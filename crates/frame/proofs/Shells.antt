@@ -1,6 +1,6 @@
 -- From the decision over blocks to the outcome over words: the soundness test comes first. Assumes nothing.
-use mathlib.Core.Path.{◌≡◌, refl, sym, ap, ◌∙◌}
-use mathlib.Core.Bool.{Bool, true, false}
+use mathlib.Core.Path.{◌≡◌, refl}
+use mathlib.Core.Bool.{true, false}
 use mathlib.Core.List.{List, [], ◌∷◌}
 use mathlib.Core.Logic.{◌⊎◌, inl, inr}
 use Prim.Native.Nat.{ℕ, ◌-◌, ◌^◌, ◌≤◌, ◌<◌, max}
@@ -10,7 +10,6 @@ use Rattle.answers.specs.declared.Answer.TheVariants.{Refused}
 use Rattle.answers.specs.declared.Refusal.TheVariants.{BadState, BadAlign}
 use Rattle.blocks.specs.Blocks.{rounded, rounded_aligned, is_power_of_two}
 use Rattle.blocks.specs.Laws.{Least}
-use Rattle.blocks.specs.declared.Rounded.{Rounded}
 use Rattle.blocks.proofs.Rounding.{rounding, class-is, above-is, aligned-is}
 use Rattle.table.specs.Layout.{order_of, blocks_of}
 use Rattle.table.specs.Sound.{soundb}

@@ -1,5 +1,5 @@
 -- What each call on a frame table answers and leaves, from docs/RULES.md, "The frame table" and "Refusal numbers".
-use Rattle.std.specs.Prelude.{Bool, true, false, not, ◌||◌, List, [], ◌∷◌, ℕ, ◌-◌, ltb, length}
+use Rattle.std.specs.Prelude.{true, false, not, ◌||◌, List, [], ◌∷◌, ℕ, ◌-◌, ltb, length}
 use Rattle.answers.specs.declared.Refusal.TheVariants.{BadOrder, BadSize, BadState, BadAlign}
 use Rattle.answers.specs.Judging.{refused, done, refuse, judge}
 use Rattle.blocks.specs.Blocks.{rounded, rounded_aligned, is_power_of_two}

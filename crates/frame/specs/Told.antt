@@ -1,5 +1,5 @@
 -- What the promises of the calls say: the answer and every lent word afterwards are the outcome's.
-use Rattle.std.specs.Prelude.{◌≡◌, List, [], ◌∷◌, ℕ}
+use Rattle.std.specs.Prelude.{List, [], ◌∷◌, ℕ}
 use Rattle.answers.specs.declared.Answer.{Answer}
 use Rattle.answers.specs.Paper.{number_of}
 use Rattle.frame.specs.declared.Report.{Report}

@@ -4,16 +4,13 @@ use mathlib.Core.Bool.{true, false}
 use mathlib.Core.List.{List, [], ◌∷◌}
 use Prim.Native.Nat.{ℕ, ◌^◌, ◌<◌}
 use lib.ListN.{get_or}
-use borrow.Author.Tests.{not-true, not-false}
 use Rattle.table.specs.Layout.{blocks_of}
 use Rattle.table.specs.Sound.{soundb}
 use Rattle.table.proofs.State.{table_is}
 use Rattle.frame_core.specs.Carried.{Says}
 use Rattle.frame_core.specs.Tally.{Tallied}
 use Rattle.frame.specs.Outcome.{Summary, outcome, decide}
-use borrow.Author.Rules.{rules}
-use Rattle.frame.proofs.summary.Statement.{statement}
-use Rattle.frame.proofs.summary.Tie as tie
+use Rattle.frame.proofs.summary.Goals as goal
 
 refused : (ws : List ℕ) → soundb ws ≡ false → Says (outcome Summary ws) (record { number = 3; values = 0 ∷ 0 ∷ 0 ∷ [] }) ws
 unfolding outcome
@@ -29,20 +26,13 @@ summed ws sound fits g m l t =
       words = table_is ws sound fits;
     })
 
-sound-requires : tie.Need-sound-requires
-sound-requires c κs = search rules
+pub returns-then-not-sound : goal.returns-then-not-sound
+returns-then-not-sound c = refused c.args.t.now (sym c.sound.ensures ∙ c.if-not-sound.true)
 
-returns : tie.Need-returns
-returns c = refused c.before.before.before.args.t.now (sym c.before.sound.ensures ∙ not-true _ c.if1.true)
+pub count_frames-requires : goal.count_frames-requires
+count_frames-requires c = sym c.sound.ensures ∙ c.if-not-sound.false
 
-count-frames-requires : tie.Need-count-frames-requires
-count-frames-requires c κs = sym c.before.sound.ensures ∙ not-false _ c.if1.false
-
-returns-2 : tie.Need-returns-2
-returns-2 c =
-    let s = c.before.before in
-    summed s.before.before.args.t.now (sym s.sound.ensures ∙ not-false _ c.before.if1.false) (λ j. (s.before.shared-slice-known.given j).fits)
-    _ _ _ c.count-frames.ensures
-
-pub summary-spec : {M : Type 1} → statement M
-summary-spec = tie.close (tie.spec sound-requires returns count-frames-requires returns-2)
+pub returns : goal.returns
+returns c =
+    summed c.args.t.now (sym c.sound.ensures ∙ c.if-not-sound.false) (λ j. (c.type_inv.t j).fits)
+    _ _ _ c.count_frames.ensures
