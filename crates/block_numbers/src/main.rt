@@ -5,7 +5,8 @@
 ghost use Rattle.std.specs.Prelude.{◌≤◌};
 
 use blocks::Rounded;
-use libc::{STDIN_FILENO, STDOUT_FILENO};
+use std::io;
+use std::io::Read;
 
 // The number being read: whether it has a digit yet, and whether it is still below 2^64.
 #[derive(Clone, Copy)]
@@ -46,74 +47,75 @@ fn digit_of(byte: u8) -> u64 {
     (byte - b'0') as u64
 }
 
-fn put(text: &[u8]) {
-    io::write_all(STDOUT_FILENO, text);
+fn put(rt: &impl Print, text: &[u8]) -> io::Result<()> {
+    rt.write_all(text)
 }
 
-fn put_number(n: u64) {
-    put(b" ");
-    io::print_decimal(STDOUT_FILENO, n);
+fn put_number(rt: &impl Print, n: u64) -> io::Result<()> {
+    put(rt, b" ")?;
+    rt.print(n)
 }
 
-fn put_class(r: Rounded) {
+fn put_class(rt: &impl Print, r: Rounded) -> io::Result<()> {
     match r {
-        Rounded::Class(k) => put_number(k),
-        Rounded::Above => put(b" above"),
+        Rounded::Class(k) => put_number(rt, k),
+        Rounded::Above => put(rt, b" above"),
     }
 }
 
 // The line of one number: its answers from each function of `blocks`, in the order of the heading.
-fn put_line(n: u64) {
-    io::print_decimal(STDOUT_FILENO, n);
-    put(b":");
-    put_number(blocks::size_of(n));
-    put_class(blocks::round(n));
-    put_class(blocks::round_aligned(n, 4096));
-    put_number(blocks::prev_power_of_two(n));
-    put_number(blocks::lowest_bit(n));
+fn put_line(rt: &impl Print, n: u64) -> io::Result<()> {
+    rt.print(n)?;
+    put(rt, b":")?;
+    put_number(rt, blocks::size_of(n))?;
+    put_class(rt, blocks::round(n))?;
+    put_class(rt, blocks::round_aligned(n, 4096))?;
+    put_number(rt, blocks::prev_power_of_two(n))?;
+    put_number(rt, blocks::lowest_bit(n))?;
     if blocks::is_power_of_two(n) {
-        put(b" yes");
+        put(rt, b" yes")?;
     } else {
-        put(b" no");
+        put(rt, b" no")?;
     }
-    put_number(blocks::buddy(n, 12));
-    put_number(blocks::piece(n, 1000000, 20));
-    put(b"\n");
+    put_number(rt, blocks::buddy(n, 12))?;
+    put_number(rt, blocks::piece(n, 1000000, 20))?;
+    put(rt, b"\n")
 }
 
-fn end(r: Reading) {
+fn end(rt: &impl Print, r: Reading) -> io::Result<()> {
     if r.begun {
         if r.fits {
-            put_line(r.value);
+            put_line(rt, r.value)?;
         } else {
-            put(b"not below 2^64\n");
+            put(rt, b"not below 2^64\n")?;
         }
     }
+    Ok(())
 }
 
 // Takes one byte: a digit goes on with the number, and any other byte ends it.
-fn take(r: Reading, byte: u8) -> Reading {
+fn take(rt: &impl Print, r: Reading, byte: u8) -> io::Result<Reading> {
     let digit = digit_of(byte);
     if digit <= 9 {
-        with_digit(r, digit)
+        Ok(with_digit(r, digit))
     } else {
-        end(r);
-        Reading {
+        end(rt, r)?;
+        Ok(Reading {
             value: 0,
             begun: false,
             fits: true,
-        }
+        })
     }
 }
 
-fn take_all(start: Reading, bytes: &[u8]) -> Reading {
+fn take_all(rt: &impl Print, start: Reading, bytes: &[u8]) -> io::Result<Reading> {
     let mut r = start;
     let mut i = 0;
     while i < bytes.len() {
-        r = take(r, bytes[i]);
+        r = take(rt, r, bytes[i])?;
         i += 1;
     }
-    r
+    Ok(r)
 }
 
 // What one read gave: the number so far, and whether the input may go on.
@@ -123,21 +125,23 @@ struct Step {
     more: bool,
 }
 
-fn read_some(r: Reading) -> Step {
-    let mut buffer = io::buffer();
-    let got = libc::read(STDIN_FILENO, &mut buffer);
-    let n = io::count(got, &buffer);
-    Step {
-        reading: take_all(r, &buffer[..n]),
+fn read_some(input: &mut impl Read, rt: &impl Print, r: Reading) -> io::Result<Step> {
+    let mut buffer = [0u8; 4096];
+    let n = input.read(&mut buffer)?;
+    let reading = take_all(rt, r, &buffer[..n])?;
+    Ok(Step {
+        reading,
         more: n > 0,
-    }
+    })
 }
 
 // A proved loop has to end, and nothing says that an input does: the loop counts down from a number that no run uses up.
-fn main() {
+fn main(rt: HostRuntime) -> io::Result<()> {
     put(
+        &rt,
         b"number: size class aligned-to-4096 previous-power lowest-bit power-of-two buddy-in-class-12 piece-of-1000000-up-to-class-20\n",
-    );
+    )?;
+    let mut input = rt.stdin();
     let mut step = Step {
         reading: Reading {
             value: 0,
@@ -149,9 +153,9 @@ fn main() {
     let mut turns = u64::MAX;
     while turns > 0 && step.more {
         let r = step.reading;
-        step = read_some(r);
+        step = read_some(&mut input, &rt, r)?;
         turns -= 1;
     }
     let last = step.reading;
-    end(last);
+    end(&rt, last)
 }

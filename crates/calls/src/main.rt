@@ -2,14 +2,15 @@
 
 #![tactic(auto)]
 
-ghost use Rattle.std.specs.Prelude.{◌≡◌, ◌≤◌, ◌<◌, length, take};
+ghost use Rattle.std.specs.Prelude.{◌≡◌, ◌≤◌, ◌<◌, length, take, IfOk};
 ghost use Rattle.frame_lines.specs.Command.{command_of};
 ghost use Rattle.texts.specs.Put.{Put, Shown};
 ghost use Rattle.calls.specs.Run.{printed, words_after, line_of, block_line, Took, Ended};
 
 use answers::Answer;
 use frame_lines::Command;
-use libc::{STDIN_FILENO, STDOUT_FILENO};
+use std::io;
+use std::io::Read;
 use texts::room;
 
 // What a line prints: the reply of a call, with or without its value, or that it is no call.
@@ -65,28 +66,42 @@ fn put_printed(line: Printed, out: &mut [u8], at: usize) -> usize
 }
 
 // Runs the line of which the first len bytes are held, and puts what it prints.
-fn run_line(held: &[u8], len: usize, t: &mut [u64], out: &mut [u8], at: usize) -> usize
+fn run_line(
+    rt: &impl Print,
+    held: &[u8],
+    len: usize,
+    t: &mut [u64],
+    out: &mut [u8],
+    at: usize,
+) -> io::Result<usize>
     requires len_in_bounds { len ≤ length held.now }
     requires at_in_bounds { at ≤ length out.old }
     requires in_bounds { 160 ≤ length out.old }
-    ensures upper_bound { result ≤ length out.new }
+    ensures upper_bound { IfOk result (λ after. after ≤ length out.new) }
     ensures t_after { t.new ≡ words_after (command_of (take len held.now)) t.old }
-    ensures shown { Shown (printed (command_of (take len held.now)) t.old) out.old result out.new }
+    ensures shown { IfOk result (λ after. Shown (printed (command_of (take len held.now)) t.old) out.old after out.new) }
 {
     let line = run(frame_lines::command_of(&held[..len]), t);
-    let free = room(out, at);
-    put_printed(line, out, free)
+    let free = room(rt, out, at)?;
+    Ok(put_printed(line, out, free))
 }
 
 // Runs the lines that end in a chunk; what follows them is held.
-fn take_all(chunk: &[u8], held: &mut [u8], t: &mut [u64], out: &mut [u8], place: Place) -> Place
+fn take_all(
+    rt: &impl Print,
+    chunk: &[u8],
+    held: &mut [u8],
+    t: &mut [u64],
+    out: &mut [u8],
+    place: Place,
+) -> io::Result<Place>
     requires held_len { length held.old ≡ 81 }
     requires held_bound { place.held ≤ 81 }
     requires out_in_bounds { place.out ≤ length out.old }
     requires in_bounds { 160 ≤ length out.old }
-    ensures held_bound_2 { result.held ≤ 81 }
-    ensures out_in_bounds_2 { result.out ≤ length out.new }
-    ensures took { Took chunk.now held.old place.held t.old held.new result.held t.new }
+    ensures held_bound_2 { IfOk result (λ after. after.held ≤ 81) }
+    ensures out_in_bounds_2 { IfOk result (λ after. after.out ≤ length out.new) }
+    ensures took { IfOk result (λ after. Took chunk.now held.old place.held t.old held.new after.held t.new) }
 {
     let mut len = place.held;
     let mut at = place.out;
@@ -95,31 +110,37 @@ fn take_all(chunk: &[u8], held: &mut [u8], t: &mut [u64], out: &mut [u8], place:
         let g = lines::gather(chunk, from, held, len);
         len = g.len;
         if g.ended {
-            at = run_line(held, len, t, out, at);
+            at = run_line(rt, held, len, t, out, at)?;
             len = 0;
         }
         from = g.at;
     }
-    Place { held: len, out: at }
+    Ok(Place { held: len, out: at })
 }
 
 // Reads once, and runs the lines that end in what it got.
-fn read_some(held: &mut [u8], t: &mut [u64], out: &mut [u8], place: Place) -> Step
+fn read_some(
+    input: &mut impl Read,
+    rt: &impl Print,
+    held: &mut [u8],
+    t: &mut [u64],
+    out: &mut [u8],
+    place: Place,
+) -> io::Result<Step>
     requires held_len { length held.old ≡ 81 }
     requires held_bound { place.held ≤ 81 }
     requires out_in_bounds { place.out ≤ length out.old }
     requires in_bounds { 160 ≤ length out.old }
-    ensures held_bound_2 { result.place.held ≤ 81 }
-    ensures out_in_bounds_2 { result.place.out ≤ length out.new }
+    ensures held_bound_2 { IfOk result (λ step. step.place.held ≤ 81) }
+    ensures out_in_bounds_2 { IfOk result (λ step. step.place.out ≤ length out.new) }
 {
-    let mut buffer = io::buffer();
-    let got = libc::read(STDIN_FILENO, &mut buffer);
-    let n = io::count(got, &buffer);
-    let after = take_all(&buffer[..n], held, t, out, place);
-    Step {
+    let mut buffer = [0u8; 4096];
+    let n = input.read(&mut buffer)?;
+    let after = take_all(rt, &buffer[..n], held, t, out, place)?;
+    Ok(Step {
         place: after,
         more: n > 0,
-    }
+    })
 }
 
 // The line of a record.
@@ -135,31 +156,37 @@ fn put_block(w: u64, out: &mut [u8], at: usize) -> usize
 }
 
 // Prints the table: its heading, and a line for each record.
-fn put_table(t: &[u64], out: &mut [u8], at: usize) -> usize
+fn put_table(rt: &impl Print, t: &[u64], out: &mut [u8], at: usize) -> io::Result<usize>
     requires t_nonzero { 0 < length t.now }
     requires at_in_bounds { at ≤ length out.old }
     requires in_bounds { 160 ≤ length out.old }
-    ensures { result ≤ length out.new }
+    ensures { IfOk result (λ after. after ≤ length out.new) }
 {
     let head = t[0];
     let count = table::count_of(head);
-    let first = room(out, at);
+    let first = room(rt, out, at)?;
     let mut to = frame_lines::put_heading(table::order_of(head), count as u64, out, first);
     let mut i = 1;
     while i < t.len() && i <= count {
-        let free = room(out, to);
+        let free = room(rt, out, to)?;
         to = put_block(t[i], out, free);
         i += 1;
     }
-    to
+    Ok(to)
 }
 
 // Reads to the input's end. A proved loop has to end, and nothing says that an input does: it counts down from a number that no run uses up.
-fn read_all(held: &mut [u8], t: &mut [u64], out: &mut [u8]) -> Place
+fn read_all(
+    input: &mut impl Read,
+    rt: &impl Print,
+    held: &mut [u8],
+    t: &mut [u64],
+    out: &mut [u8],
+) -> io::Result<Place>
     requires held_len { length held.old ≡ 81 }
     requires in_bounds { 160 ≤ length out.old }
-    ensures held_bound { result.held ≤ 81 }
-    ensures out_in_bounds { result.out ≤ length out.new }
+    ensures held_bound { IfOk result (λ place. place.held ≤ 81) }
+    ensures out_in_bounds { IfOk result (λ place. place.out ≤ length out.new) }
 {
     let mut step = Step {
         place: Place { held: 0, out: 0 },
@@ -168,28 +195,41 @@ fn read_all(held: &mut [u8], t: &mut [u64], out: &mut [u8]) -> Place
     let mut turns = u64::MAX;
     while turns > 0 && step.more {
         let place = step.place;
-        step = read_some(held, t, out, place);
+        step = read_some(input, rt, held, t, out, place)?;
         turns -= 1;
     }
-    step.place
+    Ok(step.place)
 }
 
 // Runs the line that is held at the input's end: without a line feed it counts, and where nothing is held there is none.
-fn run_last(held: &[u8], len: usize, t: &mut [u64], out: &mut [u8], at: usize) -> usize
+fn run_last(
+    rt: &impl Print,
+    held: &[u8],
+    len: usize,
+    t: &mut [u64],
+    out: &mut [u8],
+    at: usize,
+) -> io::Result<usize>
     requires len_in_bounds { len ≤ length held.now }
     requires at_in_bounds { at ≤ length out.old }
     requires in_bounds { 160 ≤ length out.old }
-    ensures upper_bound { result ≤ length out.new }
+    ensures upper_bound { IfOk result (λ after. after ≤ length out.new) }
     ensures ended { Ended held.now len t.old t.new }
 {
     if len == 0 {
-        return at;
+        return Ok(at);
     }
-    run_line(held, len, t, out, at)
+    run_line(rt, held, len, t, out, at)
 }
 
 // Prints the table, after what waits and what a last line prints.
-fn finish(held: &[u8], t: &mut [u64], out: &mut [u8], place: Place)
+fn finish(
+    rt: &impl Print,
+    held: &[u8],
+    t: &mut [u64],
+    out: &mut [u8],
+    place: Place,
+) -> io::Result<()>
     requires held_in_bounds { place.held ≤ length held.now }
     requires out_in_bounds { place.out ≤ length out.old }
     requires t_nonzero { 0 < length t.old }
@@ -198,16 +238,17 @@ fn finish(held: &[u8], t: &mut [u64], out: &mut [u8], place: Place)
 {
     let len = place.held;
     let waiting = place.out;
-    let at = run_last(held, len, t, out, waiting);
-    let end = put_table(t, out, at);
-    io::write_all(STDOUT_FILENO, &out[..end]);
+    let at = run_last(rt, held, len, t, out, waiting)?;
+    let end = put_table(rt, t, out, at)?;
+    rt.write_all(&out[..end])
 }
 
-fn main() {
+fn main(rt: HostRuntime) -> io::Result<()> {
     let mut t = [0u64; 4096];
     frame::new(&mut t, 33);
     let mut held = [0u8; 81];
-    let mut out = io::buffer();
-    let place = read_all(&mut held, &mut t, &mut out);
-    finish(&held, &mut t, &mut out, place);
+    let mut out = [0u8; 4096];
+    let mut input = rt.stdin();
+    let place = read_all(&mut input, &rt, &mut held, &mut t, &mut out)?;
+    finish(&rt, &held, &mut t, &mut out, place)
 }
