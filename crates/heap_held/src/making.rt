@@ -22,12 +22,7 @@ fn new_settled(h: Heap, arena: &[u64], ledger: &mut [u64], order: u64) -> Settle
     }
 }
 
-pub fn lavikety_heap_new(
-    heap: &mut Heap,
-    arena: &[u64],
-    ledger: &mut [u64],
-    order: u64,
-) -> CAnswer
+pub fn lavikety_heap_new(heap: &mut Heap, arena: &[u64], ledger: &mut [u64], order: u64) -> CAnswer
     ensures { Crossed (making_over order (state heap.old arena.now ledger.old)) result.number result.value heap.new arena.now ledger.new }
 {
     let h = *heap;

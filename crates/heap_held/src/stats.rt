@@ -12,11 +12,7 @@ fn stats_alloc_user_numbers(h: Heap, arena: &[u64], ledger: &[u64]) -> CAnswer
     numbers(heap::stats_alloc_user(h, arena, ledger))
 }
 
-pub fn lavikety_heap_stats_alloc_user(
-    heap: &Heap,
-    arena: &[u64],
-    ledger: &[u64],
-) -> CAnswer
+pub fn lavikety_heap_stats_alloc_user(heap: &Heap, arena: &[u64], ledger: &[u64]) -> CAnswer
     ensures { Crossed (outcome StatsAllocUser (state heap.now arena.now ledger.now)) result.number result.value heap.now arena.now ledger.now }
 {
     let h = *heap;
@@ -29,11 +25,7 @@ fn stats_alloc_actual_numbers(h: Heap, arena: &[u64], ledger: &[u64]) -> CAnswer
     numbers(heap::stats_alloc_actual(h, arena, ledger))
 }
 
-pub fn lavikety_heap_stats_alloc_actual(
-    heap: &Heap,
-    arena: &[u64],
-    ledger: &[u64],
-) -> CAnswer
+pub fn lavikety_heap_stats_alloc_actual(heap: &Heap, arena: &[u64], ledger: &[u64]) -> CAnswer
     ensures { Crossed (outcome StatsAllocActual (state heap.now arena.now ledger.now)) result.number result.value heap.now arena.now ledger.now }
 {
     let h = *heap;
@@ -46,11 +38,7 @@ fn stats_total_bytes_numbers(h: Heap, arena: &[u64], ledger: &[u64]) -> CAnswer
     numbers(heap::stats_total_bytes(h, arena, ledger))
 }
 
-pub fn lavikety_heap_stats_total_bytes(
-    heap: &Heap,
-    arena: &[u64],
-    ledger: &[u64],
-) -> CAnswer
+pub fn lavikety_heap_stats_total_bytes(heap: &Heap, arena: &[u64], ledger: &[u64]) -> CAnswer
     ensures { Crossed (outcome StatsTotalBytes (state heap.now arena.now ledger.now)) result.number result.value heap.now arena.now ledger.now }
 {
     let h = *heap;

@@ -11,5 +11,6 @@ pub use adding::{lavikety_heap_add, lavikety_heap_init};
 pub use granting::{lavikety_heap_alloc, lavikety_heap_dealloc, lavikety_heap_zero};
 pub use making::lavikety_heap_new;
 pub use stats::{
-    lavikety_heap_stats_alloc_actual, lavikety_heap_stats_alloc_user, lavikety_heap_stats_total_bytes,
+    lavikety_heap_stats_alloc_actual, lavikety_heap_stats_alloc_user,
+    lavikety_heap_stats_total_bytes,
 };
