@@ -136,11 +136,11 @@ module _ {order n : ℕ} {others : List Block} where
   unfolding push_all add_l
   add-managed {total} zero top s c r h free g = let e : total + c ≡ total = omega arith in rw e g
   add-managed {total} (suc turns) top s zero r h free g = let e : total + 0 ≡ total = omega arith in rw e g
-  add-managed {total} (suc turns) top s (suc c) r h free g =
+  add-managed {total} {m} {ls} (suc turns) top s (suc c) r h free g =
       let some : 0 < suc c = omega arith in
       let w = first-cut r some in
       let q : ℕ = (cut r some).power.class in
       let z : eqb (suc c) 0 ≡ false = ne_eqb (suc c) 0 (λ e. omega arith) in
       let one = one_more s (suc c) q w.fits w.within free g in
       let e : total + suc c ≡ total + 2 ^ q + (suc c - 2 ^ q) = omega (arith, w.within) in
-      rw (z, push_all, add_l, e, w.class, w.size) (add-managed turns top (s + 2 ^ q) (suc c - 2 ^ q) w.rest (omega (arith, pow_pos q)) one.1 one.0)
+      rw (z, push_all, add_l, e, w.class, w.size) (add-managed {total = total + 2 ^ q} {m = push q s m} {ls = push_l q s ls} turns top (s + 2 ^ q) (suc c - 2 ^ q) w.rest (omega (arith, pow_pos q)) one.1 one.0)

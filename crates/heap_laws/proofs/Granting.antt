@@ -86,10 +86,10 @@ module _ {order n total : ℕ} {others : List Block} where
   down-managed {xs} zero k low g e =
       let z : k + 0 ≡ k = omega arith in
       record { managed = g; rest = xs; is = rw z at e }
-  down-managed (suc d) k low g e =
+  down-managed {m} {ls} {a} {xs} (suc d) k low g e =
       let z : k + suc d ≡ suc (k + d) = omega arith in
       let s = split-managed (k + d) (omega arith) g (rw z at e) in
-      down-managed d k low s.0 s.2
+      down-managed {m = split (k + d) m} {ls = split_l (k + d) ls} {a = a} {xs = s.1} d k low s.0 s.2
 
 -- ---- a grant
 

@@ -76,7 +76,7 @@ joined_up {order} {n} {total} {m} {ls} {others} (suc above) k a before h g e =
     go (stands b (of_class k ls)) refl
     (λ found. let g' = one_up k (omega arith) g e found in
     let l : length (remove_l k a (remove_l k b ls)) ≡ length ls = removed-length k a (remove_l k b ls) ∙ removed-length k b ls in
-    joined_up above (suc k) c (before + compared b (of_class k ls)) (omega arith) g' (pushed-first (suc k) c (remove_l k a (remove_l k b ls)) (omega (arith, g.lists-33, g.classes))))
+    joined_up {m = push (suc k) c (pop k (remove k b m))} {ls = push_l (suc k) c (remove_l k a (remove_l k b ls))} above (suc k) c (before + compared b (of_class k ls)) (omega arith) g' (pushed-first (suc k) c (remove_l k a (remove_l k b ls)) (omega (arith, g.lists-33, g.classes))))
   where
     b : ℕ
     b = buddy_of k a

@@ -7,7 +7,7 @@ use native.Mathlib.Omega.{arith}
 use Rattle.answers.specs.declared.Refusal.{Refusal}
 use Rattle.answers.specs.declared.Refusal.TheVariants.{BadOrder, BadSize, BadState, BadRange, NullStart, Overlap, BadAlign, Misaligned, NoBlock, NotGranted, NoRoom}
 use Rattle.answers.specs.Paper.{number_of}
-use Rattle.heap_state.specs.State.{State, state}
+use Rattle.heap_state.specs.State.{State}
 use Rattle.heap_blocks.specs.Sound.{is_sound}
 use Rattle.answers.specs.Judging.{refused, done}
 use Rattle.heap_core.specs.Deciding.{Decision, carried}

@@ -9,28 +9,31 @@ use Rattle.heap_add.proofs.add.add_range.Goals as goal
 
 pub returns-then-bytes-start : goal.returns-then-bytes-start
 returns-then-bytes-start c =
-    let s = c.args in
-    says-refused s.h s.arena.now s.ledger.now _ _ _ (start_outside s.start s.end (state s.h s.arena.now s.ledger.now) c.if-bytes-start.true) c.refused.ensures
+    let a = c.args in
+    says-refused a.h a.arena.now a.ledger.now _ _ _ (start_outside a.start a.end (state a.h a.arena.now a.ledger.now) c.if-bytes-start.true) c.refused.ensures
 
 pub returns-then-bytes-end : goal.returns-then-bytes-end
 returns-then-bytes-end c =
-    let s = c.args in
-    says-refused s.h s.arena.now s.ledger.now _ _ _ (end-outside s.start s.end (state s.h s.arena.now s.ledger.now) c.if-bytes-start.false c.if-bytes-end.true) c.refused-then-bytes-end.ensures
+    let a = c.args in
+    let st = state a.h a.arena.now a.ledger.now in
+    says-refused a.h a.arena.now a.ledger.now _ _ _ (end-outside a.start a.end st c.if-bytes-start.false c.if-bytes-end.true) c.refused-then-bytes-end.ensures
 
 pub returns-then-to-from : goal.returns-then-to-from
 returns-then-to-from c =
-    let s = c.args in
-    says-refused s.h s.arena.now s.ledger.now _ _ _ (backward s.start s.end (state s.h s.arena.now s.ledger.now) c.if-bytes-start.false c.if-bytes-end.false c.if-to-from.true) c.refused-then-to-from.ensures
+    let a = c.args in
+    let st = state a.h a.arena.now a.ledger.now in
+    says-refused a.h a.arena.now a.ledger.now _ _ _ (backward a.start a.end st c.if-bytes-start.false c.if-bytes-end.false c.if-to-from.true) c.refused-then-to-from.ensures
 
 pub returns-then-from-to : goal.returns-then-from-to
 returns-then-from-to c =
-    let s = c.args in
-    says-done _ _ _ _ _ _ _ (none-added s.start s.end (state s.h s.arena.now s.ledger.now) c.if-bytes-start.false c.if-bytes-end.false c.if-to-from.false c.if-from-to.true) refl
+    let a = c.args in
+    says-done _ _ _ _ _ _ _ (none-added a.start a.end (state a.h a.arena.now a.ledger.now) c.if-bytes-start.false c.if-bytes-end.false c.if-to-from.false c.if-from-to.true) refl
 
 pub returns-then-from-eq0 : goal.returns-then-from-eq0
 returns-then-from-eq0 c =
-    let s = c.args in
-    says-refused s.h s.arena.now s.ledger.now _ _ _ (from_null s.start s.end (state s.h s.arena.now s.ledger.now) c.if-bytes-start.false c.if-bytes-end.false c.if-to-from.false c.if-from-eq0.true (omega (arith, c.if-to-from.false, c.if-from-to.false))) c.refused-then-from-eq0.ensures
+    let a = c.args in
+    let st = state a.h a.arena.now a.ledger.now in
+    says-refused a.h a.arena.now a.ledger.now _ _ _ (from_null a.start a.end st c.if-bytes-start.false c.if-bytes-end.false c.if-to-from.false c.if-from-eq0.true (omega (arith, c.if-to-from.false, c.if-from-to.false))) c.refused-then-from-eq0.ensures
 
 pub add_words-requires : goal.add_words-requires
 add_words-requires c =
@@ -38,7 +41,8 @@ add_words-requires c =
 
 pub returns : goal.returns
 returns c =
-    let s = c.args in
-    subst (λ (d : Decision). Says (carried (state s.h s.arena.now s.ledger.now) d) c.add_words.result c.add_words.new.arena s.ledger.now)
-    (sym (some_words s.start s.end (state s.h s.arena.now s.ledger.now) c.if-bytes-start.false c.if-bytes-end.false c.if-to-from.false c.if-from-eq0.false))
+    let a = c.args in
+    let st = state a.h a.arena.now a.ledger.now in
+    subst (λ (d : Decision). Says (carried st d) c.add_words.result c.add_words.new.arena a.ledger.now)
+    (sym (some_words a.start a.end st c.if-bytes-start.false c.if-bytes-end.false c.if-to-from.false c.if-from-eq0.false))
     c.add_words.ensures

@@ -13,8 +13,9 @@ use Rattle.heap_add.proofs.add.add_words.Goals as goal
 
 pub returns-then-free_meets : goal.returns-then-free_meets
 returns-then-free_meets c =
-    let s = c.args in
-    says-refused s.h s.arena.now s.ledger.now _ _ _ (free-there s.from s.to (state s.h s.arena.now s.ledger.now) (sym c.free_meets.ensures ∙ c.if-free_meets.true)) c.refused.ensures
+    let a = c.args in
+    let st = state a.h a.arena.now a.ledger.now in
+    says-refused a.h a.arena.now a.ledger.now _ _ _ (free-there a.from a.to st (sym c.free_meets.ensures ∙ c.if-free_meets.true)) c.refused.ensures
 
 pub granted_meets-requires : goal.granted_meets-requires
 granted_meets-requires c =
@@ -22,9 +23,10 @@ granted_meets-requires c =
 
 pub returns-then-granted_meets : goal.returns-then-granted_meets
 returns-then-granted_meets c =
-    let s = c.args in
-    says-refused s.h s.arena.now s.ledger.now _ _ _
-    (granted-there s.from s.to (state s.h s.arena.now s.ledger.now) (sym c.free_meets.ensures ∙ c.if-free_meets.false) (sym c.granted_meets.ensures ∙ c.if-granted_meets.true)) c.refused-then-granted_meets.ensures
+    let a = c.args in
+    let st = state a.h a.arena.now a.ledger.now in
+    says-refused a.h a.arena.now a.ledger.now _ _ _
+    (granted-there a.from a.to st (sym c.free_meets.ensures ∙ c.if-free_meets.false) (sym c.granted_meets.ensures ∙ c.if-granted_meets.true)) c.refused-then-granted_meets.ensures
 
 pub overflow_sub-h : goal.overflow_sub-h
 overflow_sub-h c =
@@ -42,7 +44,8 @@ overflow_add-g c =
 
 pub returns : goal.returns
 returns c =
-    let s = c.args in
+    let a = c.args in
+    let st = state a.h a.arena.now a.ledger.now in
     says-done _ _ _ _ _ _ _
-    (words-added s.from s.to (state s.h s.arena.now s.ledger.now) (sym c.free_meets.ensures ∙ c.if-free_meets.false) (sym c.granted_meets.ensures ∙ c.if-granted_meets.false))
-    (ap (λ (m : Memory). with_lists (state s.h s.arena.now s.ledger.now) m (s.h.total + (s.to - s.from))) c.push_pieces.ensures)
+    (words-added a.from a.to st (sym c.free_meets.ensures ∙ c.if-free_meets.false) (sym c.granted_meets.ensures ∙ c.if-granted_meets.false))
+    (ap (λ (m : Memory). with_lists st m (a.h.total + (a.to - a.from))) c.push_pieces.ensures)

@@ -12,22 +12,29 @@ use Rattle.heap_release.proofs.release.release_bytes.Goals as goal
 
 pub returns-then-not-is_power_of_two : goal.returns-then-not-is_power_of_two
 returns-then-not-is_power_of_two c =
-    says-refused c.args.h c.args.arena.now c.args.ledger.now _ _ _
-    (release-is c.args.address c.args.size c.args.align (state c.args.h c.args.arena.now c.args.ledger.now) ∙ badly-aligned c.args.address c.args.size c.args.align (state c.args.h c.args.arena.now c.args.ledger.now) _ (sym c.is_power_of_two.ensures ∙ c.if-not-is_power_of_two.true)) c.refused.ensures
+    let a = c.args in
+    let st = state a.h a.arena.now a.ledger.now in
+    says-refused a.h a.arena.now a.ledger.now _ _ _
+    (release-is a.address a.size a.align st ∙ badly-aligned a.address a.size a.align st _ (sym c.is_power_of_two.ensures ∙ c.if-not-is_power_of_two.true)) c.refused.ensures
 
 pub find-found-requires : goal.find-found-requires
 find-found-requires c =
-    (c.args.h.order, kept (state c.args.h c.args.arena.now c.args.ledger.now) (sound-fact _ _ _ c.requires))
+    let a = c.args in
+    (a.h.order, kept (state a.h a.arena.now a.ledger.now) (sound-fact _ _ _ c.requires))
 
 pub returns-in_default : goal.returns-in_default
 returns-in_default c =
-    says-refused c.args.h c.args.arena.now c.args.ledger.now _ _ _
-    (release-is c.args.address c.args.size c.args.align (state c.args.h c.args.arena.now c.args.ledger.now) ∙ not_there c.args.address c.args.size c.args.align (state c.args.h c.args.arena.now c.args.ledger.now) _ (sym c.is_power_of_two.ensures ∙ c.if-not-is_power_of_two.false) _ c.class_for-class.ensures (sym c.find-found.ensures ∙ c.in_default.is)) c.refused-in_default.ensures
+    let a = c.args in
+    let st = state a.h a.arena.now a.ledger.now in
+    says-refused a.h a.arena.now a.ledger.now _ _ _
+    (release-is a.address a.size a.align st ∙ not_there a.address a.size a.align st _ (sym c.is_power_of_two.ensures ∙ c.if-not-is_power_of_two.false) _ c.class_for-class.ensures (sym c.find-found.ensures ∙ c.in_default.is)) c.refused-in_default.ensures
 
 pub strike-requires : goal.strike-requires
 strike-requires c =
-    let k = kept (state c.args.h c.args.arena.now c.args.ledger.now) (sound-fact _ _ _ c.requires) in
-    ((c.args.h.order, k), index_in (state c.args.h c.args.arena.now c.args.ledger.now) _ _ _ _ (sound-fact _ _ _ c.requires) (sym c.find-found.ensures ∙ c.in-At.is))
+    let a = c.args in
+    let st = state a.h a.arena.now a.ledger.now in
+    let k = kept st (sound-fact _ _ _ c.requires) in
+    ((a.h.order, k), index_in st _ _ _ _ (sound-fact _ _ _ c.requires) (sym c.find-found.ensures ∙ c.in-At.is))
 
 pub overflow_sub-h : goal.overflow_sub-h
 overflow_sub-h c = omega (arith, (sound-fact _ _ _ c.requires).ranges.order-low)
@@ -55,5 +62,7 @@ overflow_sub-g-3 c =
 
 pub returns : goal.returns
 returns c =
-    release-says c.args.address c.args.size c.args.align (state c.args.h c.args.arena.now c.args.ledger.now) _ _ (sound-fact _ _ _ c.requires) c.class_for-class.ensures (sym c.find-found.ensures ∙ c.in-At.is) (sym c.is_power_of_two.ensures ∙ c.if-not-is_power_of_two.false) _ _ _ _ _
+    let a = c.args in
+    let st = state a.h a.arena.now a.ledger.now in
+    release-says a.address a.size a.align st _ _ (sound-fact _ _ _ c.requires) c.class_for-class.ensures (sym c.find-found.ensures ∙ c.in-At.is) (sym c.is_power_of_two.ensures ∙ c.if-not-is_power_of_two.false) _ _ _ _ _
     c.strike.ensures c.release_block-compared.ensures c.size_of.ensures

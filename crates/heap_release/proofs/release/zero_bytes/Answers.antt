@@ -10,17 +10,22 @@ use Rattle.heap_release.proofs.release.zero_bytes.Goals as goal
 
 pub returns-then-not-is_power_of_two : goal.returns-then-not-is_power_of_two
 returns-then-not-is_power_of_two c =
-    says-refused c.args.h c.args.arena.now c.args.ledger.now _ _ _
-    (zero_is c.args.address c.args.size c.args.align (state c.args.h c.args.arena.now c.args.ledger.now) ∙ badly-aligned c.args.address c.args.size c.args.align (state c.args.h c.args.arena.now c.args.ledger.now) _ (sym c.is_power_of_two.ensures ∙ c.if-not-is_power_of_two.true)) c.refused.ensures
+    let a = c.args in
+    let st = state a.h a.arena.now a.ledger.now in
+    says-refused a.h a.arena.now a.ledger.now _ _ _
+    (zero_is a.address a.size a.align st ∙ badly-aligned a.address a.size a.align st _ (sym c.is_power_of_two.ensures ∙ c.if-not-is_power_of_two.true)) c.refused.ensures
 
 pub find-found-requires : goal.find-found-requires
 find-found-requires c =
-    (c.args.h.order, kept (state c.args.h c.args.arena.now c.args.ledger.now) (sound-fact _ _ _ c.requires))
+    let a = c.args in
+    (a.h.order, kept (state a.h a.arena.now a.ledger.now) (sound-fact _ _ _ c.requires))
 
 pub returns-in_default : goal.returns-in_default
 returns-in_default c =
-    says-refused c.args.h c.args.arena.now c.args.ledger.now _ _ _
-    (zero_is c.args.address c.args.size c.args.align (state c.args.h c.args.arena.now c.args.ledger.now) ∙ not_there c.args.address c.args.size c.args.align (state c.args.h c.args.arena.now c.args.ledger.now) _ (sym c.is_power_of_two.ensures ∙ c.if-not-is_power_of_two.false) _ c.class_for-class.ensures (sym c.find-found.ensures ∙ c.in_default.is)) c.refused-in_default.ensures
+    let a = c.args in
+    let st = state a.h a.arena.now a.ledger.now in
+    says-refused a.h a.arena.now a.ledger.now _ _ _
+    (zero_is a.address a.size a.align st ∙ not_there a.address a.size a.align st _ (sym c.is_power_of_two.ensures ∙ c.if-not-is_power_of_two.false) _ c.class_for-class.ensures (sym c.find-found.ensures ∙ c.in_default.is)) c.refused-in_default.ensures
 
 pub overflow_add-to : goal.overflow_add-to
 overflow_add-to c =
@@ -30,8 +35,12 @@ overflow_add-to c =
 
 pub slice_bounds-clear-end : goal.slice_bounds-clear-end
 slice_bounds-clear-end c =
-    omega (arith, part_in c.args.address c.args.size c.args.align (state c.args.h c.args.arena.now c.args.ledger.now) _ _ (sound-fact _ _ _ c.requires) c.class_for-class.ensures (sym c.find-found.ensures ∙ c.in-At.is) (sym c.is_power_of_two.ensures ∙ c.if-not-is_power_of_two.false))
+    let a = c.args in
+    let st = state a.h a.arena.now a.ledger.now in
+    omega (arith, part_in a.address a.size a.align st _ _ (sound-fact _ _ _ c.requires) c.class_for-class.ensures (sym c.find-found.ensures ∙ c.in-At.is) (sym c.is_power_of_two.ensures ∙ c.if-not-is_power_of_two.false))
 
 pub returns : goal.returns
 returns c =
-    zero-says c.args.address c.args.size c.args.align (state c.args.h c.args.arena.now c.args.ledger.now) _ _ (sound-fact _ _ _ c.requires) c.class_for-class.ensures (sym c.find-found.ensures ∙ c.in-At.is) (sym c.is_power_of_two.ensures ∙ c.if-not-is_power_of_two.false) _ _ refl c.clear.ensures
+    let a = c.args in
+    let st = state a.h a.arena.now a.ledger.now in
+    zero-says a.address a.size a.align st _ _ (sound-fact _ _ _ c.requires) c.class_for-class.ensures (sym c.find-found.ensures ∙ c.in-At.is) (sym c.is_power_of_two.ensures ∙ c.if-not-is_power_of_two.false) _ _ refl c.clear.ensures
