@@ -1,4 +1,4 @@
--- `heap_held::adding::add_settled` meets its contract: the call, in numbers; written by tools/walks. Assumes nothing.
+-- `heap_held::adding::add_settled` meets its contract: the call, in numbers. Assumes nothing.
 use Rattle.heap_held.proofs.Crossing.{crossed}
 use Rattle.heap_held.proofs.adding.add_settled.Goals as goal
 

@@ -1,4 +1,4 @@
--- `heap_held::granting::alloc_settled` meets its contract: the call, in numbers; written by tools/walks. Assumes nothing.
+-- `heap_held::granting::alloc_settled` meets its contract: the call, in numbers. Assumes nothing.
 use Rattle.heap_held.proofs.Crossing.{crossed}
 use Rattle.heap_held.proofs.granting.alloc_settled.Goals as goal
 

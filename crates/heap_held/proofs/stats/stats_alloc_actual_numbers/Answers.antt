@@ -1,4 +1,4 @@
--- `heap_held::stats::stats_alloc_actual_numbers` meets its contract: the call, in numbers; written by tools/walks. Assumes nothing.
+-- `heap_held::stats::stats_alloc_actual_numbers` meets its contract: the call, in numbers. Assumes nothing.
 use Rattle.heap_held.proofs.Crossing.{crossed-read}
 use Rattle.heap_held.proofs.stats.stats_alloc_actual_numbers.Goals as goal
 

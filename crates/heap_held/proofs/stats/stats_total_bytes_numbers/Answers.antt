@@ -1,4 +1,4 @@
--- `heap_held::stats::stats_total_bytes_numbers` meets its contract: the call, in numbers; written by tools/walks. Assumes nothing.
+-- `heap_held::stats::stats_total_bytes_numbers` meets its contract: the call, in numbers. Assumes nothing.
 use Rattle.heap_held.proofs.Crossing.{crossed-read}
 use Rattle.heap_held.proofs.stats.stats_total_bytes_numbers.Goals as goal
 
