@@ -5,6 +5,7 @@
 mod reading;
 
 use heap_runs::Lent;
+use std::io;
 
 // How many bytes of the line at hand are held, and how many of the output wait to be written.
 #[derive(Clone, Copy)]
@@ -21,13 +22,21 @@ struct Step {
     more: bool,
 }
 
-fn main() {
+fn main(rt: HostRuntime) -> io::Result<()> {
     let mut arena = [0u64; 4096];
     let mut ledger = [0u64; 512];
     let mut held = [0u8; 81];
-    let mut out = io::buffer();
-    let step = reading::read_all(&mut held, &mut arena, &mut ledger, &mut out);
+    let mut out = [0u8; 4096];
+    let mut input = rt.stdin();
+    let step = reading::read_all(
+        &mut input,
+        &rt,
+        &mut held,
+        &mut arena,
+        &mut ledger,
+        &mut out,
+    )?;
     let lent = step.lent;
     let place = step.place;
-    reading::finish(&held, lent, &mut arena, &mut ledger, &mut out, place);
+    reading::finish(&rt, &held, lent, &mut arena, &mut ledger, &mut out, place)
 }
