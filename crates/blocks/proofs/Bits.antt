@@ -6,7 +6,7 @@ use lib.Bits.{bit_and, and_step, and_block, and_self, and_zero_r}
 use Rattle.blocks.specs.Blocks.{lowest_bit, is_power_of_two, largest_power}
 use Rattle.blocks.specs.Laws.{Power, Lowest}
 use Rattle.blocks.proofs.Powers.{exp-le, exp-lt, multiple}
-use Rattle.blocks.proofs.Searches.{largest-is, largest-none}
+use Rattle.blocks.proofs.Searches.{largest_is, largest-none}
 
 -- two numbers that make 2 ^ j - 1 have no digit in common
 no-common : (j a b : ℕ) → a + b + 1 ≡ 2 ^ j → bit_and a b ≡ 0
@@ -69,7 +69,7 @@ lowest-is s k m h w =
     let n : eqb s 0 ≡ false = ne_eqb s 0 (λ z. omega (arith, pow_pos k)) in
     let d : s % 2 ^ k ≡ 0 = multiple s (2 * m + 1) (2 ^ k) w in
     rw (n, lowest_bit)
-    (largest-is (λ p. eqb (s % p) 0) 64 k (exp-lt k 64 (omega arith)) (eq-eqb (s % 2 ^ k) 0 d)
+    (largest_is (λ p. eqb (s % p) 0) 64 k (exp-lt k 64 (omega arith)) (eq-eqb (s % 2 ^ k) 0 d)
     (λ j l e. odd-largest s k m j w (eqb-true (s % 2 ^ j) 0 e)))
 
 -- the mask with the wrapping negation t of s
@@ -101,7 +101,7 @@ pub power-yes : (n k : ℕ) → n < 2 ^ 64 → n ≡ 2 ^ k → is_power_of_two n
 unfolding is_power_of_two
 power-yes n k h e =
     let l : largest_power (λ p. eqb p n) 64 ≡ 2 ^ k =
-    largest-is (λ p. eqb p n) 64 k (exp-lt k 64 (omega arith)) (eq-eqb (2 ^ k) n (sym e))
+    largest_is (λ p. eqb p n) 64 k (exp-lt k 64 (omega arith)) (eq-eqb (2 ^ k) n (sym e))
     (λ j m d. exp-le j k (omega (arith, eqb-true (2 ^ j) n d, pow_pos k))) in
     rw l (lt-ltb 0 (2 ^ k) (pow_pos k))
 

@@ -30,7 +30,7 @@ divides-below {p} {q} s a b h d =
 piece_of : (top s n l f : ℕ) → Power l → s % l ≡ 0 → ((j : ℕ) → j ≤ top → s % 2 ^ j ≡ 0 → 2 ^ j ≤ l) → Floor n f → Piece top s n (min (min l f) (2 ^ top))
 piece_of top s n l f p d most b = record {
   power = r;
-  never-0 = power_pos r;
+  never_0 = power_pos r;
   within = omega (arith, b.within);
   small = omega arith;
   divides = divides-below s r p (omega arith) d;

@@ -9,7 +9,7 @@ use Rattle.blocks.specs.Laws.{Least, Floor}
 use Rattle.blocks.specs.declared.Rounded.{Rounded}
 use Rattle.blocks.specs.declared.Rounded.TheVariants.{Class, Above}
 use Rattle.blocks.proofs.Powers.{exp-le}
-use Rattle.blocks.proofs.Searches.{largest-is, first-is, first-none}
+use Rattle.blocks.proofs.Searches.{largest_is, first-is, first-none}
 
 -- the size that the table has of a class
 pub size_is : (k : ℕ) → k ≤ 32 → size_of k ≡ 2 ^ k
@@ -123,7 +123,7 @@ floor-of n k lo hi = record {
 
 pub prev-is : (n k : ℕ) → k < 64 → 2 ^ k ≤ n → n < 2 ^ suc k → prev_power_of_two n ≡ 2 ^ k
 unfolding prev_power_of_two
-prev-is n k s lo hi = largest-is (λ p. leb p n) 64 k s (le-leb (2 ^ k) n lo) (λ j l e. exp-le j k (omega (arith, leb-true (2 ^ j) n e)))
+prev-is n k s lo hi = largest_is (λ p. leb p n) 64 k s (le-leb (2 ^ k) n lo) (λ j l e. exp-le j k (omega (arith, leb-true (2 ^ j) n e)))
 
 pub floor : (n : ℕ) → 0 < n → n < 2 ^ 64 → Floor n (prev_power_of_two n)
 floor n p h =

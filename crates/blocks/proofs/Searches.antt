@@ -5,11 +5,11 @@ use Rattle.blocks.specs.Blocks.{largest_power, first_holding}
 use Rattle.blocks.specs.declared.Rounded.TheVariants.{Class, Above}
 
 -- a power that passes, above which none does, is the largest that passes
-pub largest-is : (passes : ℕ → Bool) (w k : ℕ) → k < w → passes (2 ^ k) ≡ true → ((j : ℕ) → j < w → passes (2 ^ j) ≡ true → j ≤ k)
+pub largest_is : (passes : ℕ → Bool) (w k : ℕ) → k < w → passes (2 ^ k) ≡ true → ((j : ℕ) → j < w → passes (2 ^ j) ≡ true → j ≤ k)
     → largest_power passes w ≡ 2 ^ k
 unfolding largest_power
-largest-is passes zero k h p top = absurd (omega arith)
-largest-is passes (suc w) k h p top = go (passes (2 ^ w)) refl (eq-or-lt_of_le (le_of_suc-le-suc h)) (λ l. largest-is passes w k l p (λ j m. top j (omega arith)))
+largest_is passes zero k h p top = absurd (omega arith)
+largest_is passes (suc w) k h p top = go (passes (2 ^ w)) refl (eq-or-lt_of_le (le_of_suc-le-suc h)) (λ l. largest_is passes w k l p (λ j m. top j (omega arith)))
   where
     go : (b : Bool) → passes (2 ^ w) ≡ b → (k ≡ w) ⊎ (k < w) → (k < w → largest_power passes w ≡ 2 ^ k) → largest_power passes (suc w) ≡ 2 ^ k
     go true e c ih = let l : w ≤ k = top w (omega arith) e in let s : w ≡ k = omega arith in rw (e, largest_power) (ap (λ (x : ℕ). 2 ^ x) s)

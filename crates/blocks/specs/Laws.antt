@@ -38,7 +38,7 @@ pub data Buddies (k s b : ℕ) : Type 0 where
 -- `piece_size top s n`, for top up to 32, s below 2 ^ 64, and n from 1 to 2 ^ 64 - 1
 pub record Piece (top s n r : ℕ) : Type 0 where
   pub power : Power r
-  pub never-0 : 0 < r
+  pub never_0 : 0 < r
   pub within : r ≤ n
   pub small : r ≤ 2 ^ top
   pub divides : s % r ≡ 0

@@ -21,9 +21,9 @@ frames-le p (next {floor = floor} {g = g} {k = k} {s = s} {bs = bs} low class al
     step-le p floor g k s bs (p (blk g k s)) refl low (frames-le p more within)
 
 -- the figures so far, with those of the records from place i on, are those of the table
-pub record Tally (t : List ℕ) (i count of-granted of-all largest : ℕ) : Type 0 where
-  pub granted-left : of-granted + frames_of granted (from t i count) ≡ frames_of granted (blocks_of t)
-  pub managed-left : of-all + frames_of (λ b. true) (from t i count) ≡ frames_of (λ b. true) (blocks_of t)
+pub record Tally (t : List ℕ) (i count of_granted of_all largest : ℕ) : Type 0 where
+  pub granted-left : of_granted + frames_of granted (from t i count) ≡ frames_of granted (blocks_of t)
+  pub managed-left : of_all + frames_of (λ b. true) (from t i count) ≡ frames_of (λ b. true) (blocks_of t)
   pub largest-left : max largest (largest_free (from t i count)) ≡ largest_free (blocks_of t)
 
 pub begins : (t : List ℕ) (count : ℕ) → count ≡ count_of (get_or t 0 0) → Tally t 0 count 0 0 0
@@ -34,13 +34,13 @@ begins t count e =
       largest-left = zero-max _ ∙ ap (λ (n : ℕ). largest_free (from t 0 n)) e;
     }
 
-pub ends : (t : List ℕ) (i count of-granted of-all largest : ℕ) → i ≡ count → Tally t i count of-granted of-all largest → Tallied (blocks_of t) of-granted of-all largest
-ends t i count of-granted of-all largest e s =
+pub ends : (t : List ℕ) (i count of_granted of_all largest : ℕ) → i ≡ count → Tally t i count of_granted of_all largest → Tallied (blocks_of t) of_granted of_all largest
+ends t i count of_granted of_all largest e s =
     let n = from-none t i count e in
     record {
-      granted-are = sym (add-zero of-granted) ∙ rw n at s.granted-left;
-      managed-are = sym (add-zero of-all) ∙ rw n at s.managed-left;
-      largest-is = sym (max-zero largest) ∙ rw n at s.largest-left;
+      granted_are = sym (add-zero of_granted) ∙ rw n at s.granted-left;
+      managed_are = sym (add-zero of_all) ∙ rw n at s.managed-left;
+      largest_is = sym (max-zero largest) ∙ rw n at s.largest-left;
     }
 
 -- what one record adds
@@ -61,24 +61,24 @@ max_assoc : (a b c : ℕ) → max (max a b) c ≡ max a (max b c)
 max_assoc a b c = omega arith
 
 module _ (t : List ℕ) (sound : soundb t ≡ true) (i count : ℕ) (is : count ≡ count_of (get_or t 0 0)) (here : i < count) where
-  module _ {of-granted of-all largest : ℕ} (so_far : Tally t i count of-granted of-all largest) (size free : ℕ) (power : size ≡ 2 ^ class_of (get_or t (i + 1) 0))
+  module _ {of_granted of_all largest : ℕ} (so_far : Tally t i count of_granted of_all largest) (size free : ℕ) (power : size ≡ 2 ^ class_of (get_or t (i + 1) 0))
       (part : free ≡ free_of (get_or t (i + 1) 0) size) where
     step : from t i count ≡ block_of (get_or t (i + 1) 0) ∷ from t (i + 1) count
     step = from_step t i count here (omega (arith, sound-fact t sound))
 
     pub record Fits : Type 0 where
       pub part_of : free ≤ size
-      pub granted-fit : of-granted + (size - free) ≤ 2 ^ 32
-      pub managed-fit : of-all + size ≤ 2 ^ 32
+      pub granted-fit : of_granted + (size - free) ≤ 2 ^ 32
+      pub managed-fit : of_all + size ≤ 2 ^ 32
 
-    granted-now : of-granted + (size - free + frames_of granted (from t (i + 1) count)) ≡ frames_of granted (blocks_of t)
+    granted-now : of_granted + (size - free + frames_of granted (from t (i + 1) count)) ≡ frames_of granted (blocks_of t)
     granted-now =
-        ap (λ (n : ℕ). of-granted + (size - n + frames_of granted (from t (i + 1) count))) part
-        ∙ ap (λ (n : ℕ). of-granted + n) (granted-step (get_or t (i + 1) 0) size (from t (i + 1) count) (eqb (mark_of (get_or t (i + 1) 0)) 1) refl power)
+        ap (λ (n : ℕ). of_granted + (size - n + frames_of granted (from t (i + 1) count))) part
+        ∙ ap (λ (n : ℕ). of_granted + n) (granted-step (get_or t (i + 1) 0) size (from t (i + 1) count) (eqb (mark_of (get_or t (i + 1) 0)) 1) refl power)
         ∙ rw step at so_far.granted-left
 
-    managed-now : of-all + (size + frames_of (λ b. true) (from t (i + 1) count)) ≡ frames_of (λ b. true) (blocks_of t)
-    managed-now = ap (λ (n : ℕ). of-all + (n + frames_of (λ b. true) (from t (i + 1) count))) power ∙ rw step at so_far.managed-left
+    managed-now : of_all + (size + frames_of (λ b. true) (from t (i + 1) count)) ≡ frames_of (λ b. true) (blocks_of t)
+    managed-now = ap (λ (n : ℕ). of_all + (n + frames_of (λ b. true) (from t (i + 1) count))) power ∙ rw step at so_far.managed-left
 
     pub fits : Fits
     fits =
@@ -90,11 +90,11 @@ module _ (t : List ℕ) (sound : soundb t ≡ true) (i count : ℕ) (is : count 
           managed-fit = omega (arith, m, managed-now);
         }
 
-    pub goes_on : (more : ℕ) → more ≡ max largest free → Tally t (i + 1) count (of-granted + (size - free)) (of-all + size) more
+    pub goes_on : (more : ℕ) → more ≡ max largest free → Tally t (i + 1) count (of_granted + (size - free)) (of_all + size) more
     goes_on more e =
         record {
-          granted-left = add_assoc of-granted _ _ ∙ granted-now;
-          managed-left = add_assoc of-all _ _ ∙ managed-now;
+          granted-left = add_assoc of_granted _ _ ∙ granted-now;
+          managed-left = add_assoc of_all _ _ ∙ managed-now;
           largest-left = ap (λ (n : ℕ). max n (largest_free (from t (i + 1) count))) e ∙ max_assoc largest free _
               ∙ ap (λ (n : ℕ). max largest (max n (largest_free (from t (i + 1) count)))) part
               ∙ ap (max largest) (largest_step (get_or t (i + 1) 0) size (from t (i + 1) count) (eqb (mark_of (get_or t (i + 1) 0)) 1) refl power)

@@ -3,10 +3,10 @@ use Rattle.std.specs.Prelude.{◌≡◌, ℕ, true, false, List, ◌==◌}
 use Rattle.rules.specs.Rules.{Block, granted, frames_of, largest_free}
 use Rattle.table.specs.Layout.{mark_of}
 
-pub record Tallied (bs : List Block) (of-granted of-all largest : ℕ) : Type 0 where
-  pub granted-are : of-granted ≡ frames_of granted bs
-  pub managed-are : of-all ≡ frames_of (λ b. true) bs
-  pub largest-is : largest ≡ largest_free bs
+pub record Tallied (bs : List Block) (of_granted of_all largest : ℕ) : Type 0 where
+  pub granted_are : of_granted ≡ frames_of granted bs
+  pub managed_are : of_all ≡ frames_of (λ b. true) bs
+  pub largest_is : largest ≡ largest_free bs
 
 -- the free frames of a record of this size
 abbrev pub free_of : ℕ → ℕ → ℕ

@@ -30,7 +30,7 @@ use Rattle.frame_add.specs.Adding.{adding}
 use Rattle.frame_grant.specs.Granting.{is_nowhere, place_in, granted_from, granting, granting_at}
 use Rattle.frame_release.specs.Releasing.{releasing}
 use Rattle.frame.specs.Outcome.{Call, Add, Alloc, AllocAligned, AllocAt, Dealloc, DeallocAligned, Summary, aligned_to, decide}
-use Rattle.frame_laws.specs.Demand3.{Requests, alloc, alloc-aligned, Grants, any, alloc_at, Releases, dealloc, dealloc-aligned}
+use Rattle.frame_laws.specs.Demand3.{Requests, alloc, alloc_aligned, Grants, any, alloc_at, Releases, dealloc, dealloc_aligned}
 
 -- what a call decides on a table of these blocks, with room for so many
 pub data Effect (top room : ℕ) (bs : List Block) : Call → Decision → Type 0 where
@@ -122,8 +122,8 @@ module _ (order room : ℕ) (bs : List Block) (low : 1 ≤ order) (high : order 
   unfolding decide
   effect (Add s e) = adding-effect s e
   effect (Alloc n) = granting-effect (alloc n)
-  effect (AllocAligned n a) = aligned-effect a _ (λ p. granting-effect (alloc-aligned n a p))
+  effect (AllocAligned n a) = aligned-effect a _ (λ p. granting-effect (alloc_aligned n a p))
   effect (AllocAt s n) = granting-at-effect s n
   effect (Dealloc s n) = releasing-effect (dealloc s n)
-  effect (DeallocAligned s n a) = aligned-effect a _ (λ p. releasing-effect (dealloc-aligned s n a p))
+  effect (DeallocAligned s n a) = aligned-effect a _ (λ p. releasing-effect (dealloc_aligned s n a p))
   effect Summary = sums

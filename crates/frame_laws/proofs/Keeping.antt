@@ -66,11 +66,11 @@ module _ (c : Call) (ws : List ℕ) (is : soundb ws ≡ true) where
       (effect (order_of (get_or ws 0 0)) (length ws - 1) (blocks_of ws) h.low h.high (sound-blocks ws is) (omega (arith, length-blocks ws is, h.room)) c))
 
 -- 6
-pub soundness-kept : say.SoundnessKept
-soundness-kept c ws e = (keeps c ws e).sound
+pub soundness_kept : say.SoundnessKept
+soundness_kept c ws e = (keeps c ws e).sound
 
-pub nothing-left-to-join : say.NothingLeftToJoin
-nothing-left-to-join c ws e k u = (keeps c ws e).joined u k
+pub nothing_left_to_join : say.NothingLeftToJoin
+nothing_left_to_join c ws e k u = (keeps c ws e).joined u k
 
 other-number : {top room : ℕ} {bs : List Block} {c : Call} (none ws : List ℕ) (d : Decision) → Effect top room bs c d → (carried none ws d).reply.number ≡ 3 → ⊥
 other-number none ws d (refuses {r = r} p) e = omega arith
@@ -79,8 +79,8 @@ other-number none ws d (grants g l f b) e = omega arith
 other-number none ws d (gives r l f) e = omega arith
 other-number none ws d sums e = omega arith
 
-pub never-bad-state : say.NeverBadState
-never-bad-state order w r c e =
+pub never_bad_state : say.NeverBadState
+never_bad_state order w r c e =
     let q = reached r in
     let t = q.stands in
     other-number (zeros c) w.words _ (effect order (length r.lent - 1) q.blocks t.low t.high t.sound (omega (arith, t.fits)) c)

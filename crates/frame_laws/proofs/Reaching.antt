@@ -46,12 +46,12 @@ pub reached : {order : ℕ} {w : World} (r : Reached order w) → Known (length 
 reached {order} r = subst (Known (length r.lent) order) (sym r.is) (after-known r.calls (fresh order r.lent) (fresh-known order r.lent r.made))
 
 -- a table that was just made is sound, and one that was not made has its words
-pub made-is-sound : say.MadeIsSound
-made-is-sound order lent e = stands-sound (fresh-known order lent e).stands
+pub made_is_sound : say.MadeIsSound
+made_is_sound order lent e = stands-sound (fresh-known order lent e).stands
 
-pub refused-making : say.RefusedMaking
+pub refused_making : say.RefusedMaking
 unfolding making
-refused-making order lent n = go (ltb order 1 || ltb 33 order) refl (ltb (length lent) 1 || ltb 65536 (length lent)) refl
+refused_making order lent n = go (ltb order 1 || ltb 33 order) refl (ltb (length lent) 1 || ltb 65536 (length lent)) refl
   where
     go : (a : Bool) → (ltb order 1 || ltb 33 order) ≡ a → (b : Bool) → (ltb (length lent) 1 || ltb 65536 (length lent)) ≡ b → (making order lent).words ≡ lent
     go true p b q = rw p refl
@@ -66,13 +66,13 @@ module _ {n order : ℕ} {w : World} (k : Known n order w) where
   -- the frames added and not granted are those that the table has free
   pub spare-frames : (x : ℕ) → Spare k.blocks x ↔ FreeFrame w.history x
   spare-frames x = (
-    λ s. record { added = (k.frames x).0 s.managed; not-granted = λ c. s.not-granted (record { class = c.class; start = c.start; member = (k.grants c.class c.start).1 c.member; covers = c.covers }) },
-    λ f. record { managed = (k.frames x).1 f.added; not-granted = λ c. f.not-granted (record { class = c.class; start = c.start; member = (k.grants c.class c.start).0 c.member; covers = c.covers }) },
+    λ s. record { added = (k.frames x).0 s.managed; not_granted = λ c. s.not_granted (record { class = c.class; start = c.start; member = (k.grants c.class c.start).1 c.member; covers = c.covers }) },
+    λ f. record { managed = (k.frames x).1 f.added; not_granted = λ c. f.not_granted (record { class = c.class; start = c.start; member = (k.grants c.class c.start).0 c.member; covers = c.covers }) },
   )
 
 -- 1
-pub free-blocks-are-largest : say.FreeBlocksAreLargest
-free-blocks-are-largest order w r apart k s =
+pub free_blocks_are_largest : say.FreeBlocksAreLargest
+free_blocks_are_largest order w r apart k s =
     let q = reached r in
     let l = free-are-largest (kept q apart) k s in
     rw (stands-blocks q.stands) (λ f. largest-same (spare-frames q) (l.0 f), λ g. l.1 (largest-same (λ x. ((spare-frames q x).1, (spare-frames q x).0)) g))

@@ -22,7 +22,7 @@ use Rattle.frame_core.specs.Carried.{Reply, Outcome, carried}
 use Rattle.frame_release.specs.Releasing.{releasing}
 use Rattle.frame.specs.Outcome.{Call, Add, Alloc, AllocAligned, AllocAt, Dealloc, DeallocAligned, Summary, zeros, decide, outcome}
 use Rattle.frame.specs.Told.{replies, last}
-use Rattle.frame_laws.specs.Demand3.{alloc, alloc-aligned, Grants, any, alloc_at, Releases, dealloc, dealloc-aligned, ReleaseAll, AllDone}
+use Rattle.frame_laws.specs.Demand3.{alloc, alloc_aligned, Grants, any, alloc_at, Releases, dealloc, dealloc_aligned, ReleaseAll, AllDone}
 use Rattle.frame_laws.specs.Demand3 as say
 use Rattle.frame_laws.proofs.Tables.{Stands, stands-outcome}
 use Rattle.frame_laws.proofs.Effects.{Effect, refuses, adds, grants, gives, sums, effect}
@@ -35,7 +35,7 @@ release-accepted : {c : Call} {k s : ℕ} (order room : ℕ) (bs : List Block) �
     → decide c order room bs ≡ done (0 ∷ []) (released (order - 1) k s bs)
 unfolding decide releasing
 release-accepted order room bs (dealloc s n) e = rw e refl
-release-accepted order room bs (dealloc-aligned s n a p) e = rw (p, e) refl
+release-accepted order room bs (dealloc_aligned s n a p) e = rw (p, e) refl
 
 -- what it answers, and the table that it leaves
 record Gives (n order : ℕ) (bs : List Block) (ws : List ℕ) (c : Call) : Type 0 where
@@ -67,12 +67,12 @@ asked Summary = 0
 
 asked-grant : {c : Call} {k : ℕ} → Grants c k → asked c ≡ suc k
 asked-grant (any (alloc n)) = refl
-asked-grant (any (alloc-aligned n a p)) = refl
+asked-grant (any (alloc_aligned n a p)) = refl
 asked-grant (alloc_at s n) = refl
 
 asked-release : {c : Call} {k s : ℕ} → Releases c k s → asked c ≡ 0
 asked-release (dealloc s n) = refl
-asked-release (dealloc-aligned s n a p) = refl
+asked-release (dealloc_aligned s n a p) = refl
 
 module _ {n order : ℕ} {bs : List Block} {ws : List ℕ} (t : Stands n order bs ws) (whole : Kept (order - 1) bs) {k v : ℕ} {release : Call} (r : Releases release k v) where
   abbrev Restored : Outcome → Type 0
@@ -98,8 +98,8 @@ module _ {n order : ℕ} {bs : List Block} {ws : List ℕ} (t : Stands n order b
   undone g d (gives h l fits) e = absurd (omega (arith, asked-grant g, asked-release h))
   undone g d sums e = absurd (omega (arith, asked-grant g))
 
-pub release-restores : say.ReleaseRestores
-release-restores order w r apart grant release k v g f e =
+pub release_restores : say.ReleaseRestores
+release_restores order w r apart grant release k v g f e =
     let q = reached r in
     let t = q.stands in
     let o = stands-outcome t grant in

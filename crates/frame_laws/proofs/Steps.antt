@@ -21,7 +21,7 @@ use Rattle.frame_core.specs.Deciding.{Decision}
 use Rattle.frame_core.specs.Carried.{Outcome, carried}
 use Rattle.frame.specs.Outcome.{Call, Add, zeros, decide}
 use Rattle.frame_laws.specs.History.{Range, range, History, granted, released, accepted, noted, World, step, after, Touch, TouchesNone, alone, nor, NoTouch, and, Added}
-use Rattle.frame_laws.specs.Demand3.{alloc, alloc-aligned, Grants, any, alloc_at, Releases, dealloc, dealloc-aligned}
+use Rattle.frame_laws.specs.Demand3.{alloc, alloc_aligned, Grants, any, alloc_at, Releases, dealloc, dealloc_aligned}
 use Rattle.frame_laws.proofs.Tables.{Stands, stands-length, stands-state, stands-outcome}
 use Rattle.frame_laws.proofs.Effects.{Effect, refuses, adds, grants, gives, sums, effect}
 
@@ -67,12 +67,12 @@ module _ {n order : ℕ} {bs : List Block} {ws : List ℕ} (t : Stands n order b
 
 accepted-grant : {c : Call} {k : ℕ} (v : ℕ) (h : History) → Grants c k → accepted c v h ≡ granted k v h
 accepted-grant v h (any (alloc n)) = refl
-accepted-grant v h (any (alloc-aligned n a p)) = refl
+accepted-grant v h (any (alloc_aligned n a p)) = refl
 accepted-grant v h (alloc_at s n) = refl
 
 accepted-release : {c : Call} {k s : ℕ} (v : ℕ) (h : History) → Releases c k s → accepted c v h ≡ released k s h
 accepted-release v h (dealloc s n) = refl
-accepted-release v h (dealloc-aligned s n a p) = refl
+accepted-release v h (dealloc_aligned s n a p) = refl
 
 one_more : (k s j t : ℕ) (gs : List Block) → (Is k s j t ⊎ Granted gs j t) ↔ Granted (blk true k s ∷ gs) j t
 one_more k s j t gs = (

@@ -20,8 +20,8 @@ use Rattle.frame_laws.specs.Demand3 as say
 
 -- ---- two ranges touch where frames of theirs are the same, or neighbours
 
-pub touch-is-near : say.TouchIsNear
-touch-is-near s e a b p q = (λ t. near t (dec_lt s a) (dec_lt a e) (dec_lt s b), λ n. record { left = omega (arith, n.here, n.there, n.low, n.high); right = omega (arith, n.here, n.there, n.low, n.high) })
+pub touch_is_near : say.TouchIsNear
+touch_is_near s e a b p q = (λ t. near t (dec_lt s a) (dec_lt a e) (dec_lt s b), λ n. record { left = omega (arith, n.here, n.there, n.low, n.high); right = omega (arith, n.here, n.there, n.low, n.high) })
   where
     near : Touch s e a b → Dec (s < a) → Dec (a < e) → Dec (s < b) → Near s e a b
     near t (yes x) (yes y) z = record { one = a; other = a; here = omega arith; there = omega arith; low = omega arith; high = omega arith }
@@ -54,7 +54,7 @@ unfolding making
 reached = record { lent = lent; made = refl; calls = calls; is = refl }
 
 both-free : (x : ℕ) → x < 2 → FreeFrame touching.history x
-both-free x h = rw happened (record { added = in-range (dec_lt x 1); not-granted = λ c. Memᴰ.not-nil c.member })
+both-free x h = rw happened (record { added = in-range (dec_lt x 1); not_granted = λ c. Memᴰ.not-nil c.member })
   where
     in-range : Dec (x < 1) → Added x (range 1 2 ∷ range 0 1 ∷ [])
     in-range (yes l) = record { start = 0; end = 1; member = Memᴰ.tail (Memᴰ.head refl); within = omega arith }
@@ -67,8 +67,8 @@ not-apart t = adjacent (rw happened at t)
     adjacent (and (nor n more) rest) = n (record { left = omega arith; right = omega arith })
 
 -- 5. The block of class 1 at 0 is wholly free, so that the free block of class 0 there is no largest one
-pub premise-is-needed : say.PremiseIsNeeded
-premise-is-needed = (
+pub premise_is_needed : say.PremiseIsNeeded
+premise_is_needed = (
   33,
   touching,
   reached,
@@ -76,7 +76,7 @@ premise-is-needed = (
   0,
   not-apart,
   rw two_blocks (Memᴰ.head refl),
-  λ l. l.no-larger 1 0 (omega arith) (record { multiple = refl }) (omega arith) (omega arith) (λ x c. both-free x (omega arith)),
+  λ l. l.no_larger 1 0 (omega arith) (record { multiple = refl }) (omega arith) (omega arith) (λ x c. both-free x (omega arith)),
 )
 
 -- ---- it can be met: [2, 3), then [0, 1), and a grant, on words that were not zero
@@ -98,8 +98,8 @@ apart-reached : Reached 33 apart
 unfolding making
 apart-reached = record { lent = other-words; made = refl; calls = other-calls; is = refl }
 
-pub premise-is-met : say.PremiseIsMet
-premise-is-met = (
+pub premise_is_met : say.PremiseIsMet
+premise_is_met = (
   apart,
   apart-reached,
   rw noted-apart (and {s = 0} {e = 1} (nor {a = 2} {b = 3} (λ t. omega (arith, t.right)) alone) (and alone none)),

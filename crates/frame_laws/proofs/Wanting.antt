@@ -20,7 +20,7 @@ use Rattle.frame_core.specs.Deciding.{Decision, wanted}
 use Rattle.frame_core.specs.Carried.{carried}
 use Rattle.frame_grant.specs.Granting.{granting, granting_at}
 use Rattle.frame.specs.Outcome.{Call, AllocAt, zeros, decide}
-use Rattle.frame_laws.specs.Demand3.{Requests, alloc, alloc-aligned}
+use Rattle.frame_laws.specs.Demand3.{Requests, alloc, alloc_aligned}
 use Rattle.frame_laws.specs.Demand3 as say
 use Rattle.frame_laws.proofs.Tables.{stands-outcome}
 use Rattle.frame_laws.proofs.Effects.{rest, given}
@@ -53,11 +53,11 @@ module _ (room : ℕ) (bs : List Block) (none ws : List ℕ) where
 requested : {c : Call} {k : ℕ} (order room : ℕ) (bs : List Block) → Requests c k → decide c order room bs ≡ granting k order room bs
 unfolding decide
 requested order room bs (alloc n) = refl
-requested order room bs (alloc-aligned n a p) = rw p refl
+requested order room bs (alloc_aligned n a p) = rw p refl
 
 -- 4
-pub refused-for-want : say.RefusedForWant
-refused-for-want order w r apart request k q h =
+pub refused_for_want : say.RefusedForWant
+refused_for_want order w r apart request k q h =
     let t = reached r in
     let o = stands-outcome t.stands request ∙ ap (carried (zeros request) w.words) (requested order (length r.lent - 1) t.blocks q) in
     let nine = granting-nine (length r.lent - 1) t.blocks (zeros request) w.words order k h in
@@ -67,15 +67,15 @@ refused-for-want order w r apart request k q h =
       λ never. nine.1 (lacking.1 (λ s a f. never s a (λ x c. (spare-frames t x).0 (f x c)))),
     )
 
-pub refused-at-start : say.RefusedAtStart
+pub refused_at_start : say.RefusedAtStart
 unfolding decide
-refused-at-start order w r apart s n h a =
+refused_at_start order w r apart s n h a =
     let t = reached r in
     let k = wanted (rounded n) in
     let o = stands-outcome t.stands (AllocAt s n) in
     let nine = granting-at-nine (length r.lent - 1) t.blocks (0 ∷ []) w.words order s k h a in
     let lacking = containing-refused t.blocks (kept t apart) k s (omega arith) a in
     rw o (
-      λ e. let x = lacking.0 (nine.0 e) in record { frame = x.frame; covers = omega (arith, x.within); not_free = λ f. x.not-spare ((spare-frames t x.frame).1 f) },
-      λ x. nine.1 (lacking.1 (record { frame = x.frame; within = omega (arith, x.covers); not-spare = λ f. x.not_free ((spare-frames t x.frame).0 f) })),
+      λ e. let x = lacking.0 (nine.0 e) in record { frame = x.frame; covers = omega (arith, x.within); not_free = λ f. x.not_spare ((spare-frames t x.frame).1 f) },
+      λ x. nine.1 (lacking.1 (record { frame = x.frame; within = omega (arith, x.covers); not_spare = λ f. x.not_free ((spare-frames t x.frame).0 f) })),
     )

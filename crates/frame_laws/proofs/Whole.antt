@@ -1,25 +1,25 @@
 -- Demand 3, all statements together. Assumes nothing.
 use Rattle.frame_laws.specs.Demand3.{Demand3}
-use Rattle.frame_laws.proofs.Reaching.{free-blocks-are-largest, made-is-sound, refused-making}
-use Rattle.frame_laws.proofs.Restoring.{release-restores, any-order-of-releases}
-use Rattle.frame_laws.proofs.Wanting.{refused-for-want, refused-at-start}
-use Rattle.frame_laws.proofs.Keeping.{soundness-kept, nothing-left-to-join, never-bad-state}
-use Rattle.frame_laws.proofs.Touching.{premise-is-needed, touch-is-near, premise-is-met}
+use Rattle.frame_laws.proofs.Reaching.{free_blocks_are_largest, made_is_sound, refused_making}
+use Rattle.frame_laws.proofs.Restoring.{release_restores, any-order-of-releases}
+use Rattle.frame_laws.proofs.Wanting.{refused_for_want, refused_at_start}
+use Rattle.frame_laws.proofs.Keeping.{soundness_kept, nothing_left_to_join, never_bad_state}
+use Rattle.frame_laws.proofs.Touching.{premise_is_needed, touch_is_near, premise_is_met}
 
 pub demand-3 : Demand3
 demand-3 =
     record {
-      free-blocks-are-largest = free-blocks-are-largest;
-      release-restores = release-restores;
+      free_blocks_are_largest = free_blocks_are_largest;
+      release_restores = release_restores;
       any_order = any-order-of-releases;
-      refused-for-want = refused-for-want;
-      refused-at-start = refused-at-start;
-      premise-is-needed = premise-is-needed;
-      touch-is-near = touch-is-near;
-      premise-is-met = premise-is-met;
-      soundness-kept = soundness-kept;
-      made-is-sound = made-is-sound;
-      refused-making = refused-making;
-      never-bad-state = never-bad-state;
-      nothing-left-to-join = nothing-left-to-join;
+      refused_for_want = refused_for_want;
+      refused_at_start = refused_at_start;
+      premise_is_needed = premise_is_needed;
+      touch_is_near = touch_is_near;
+      premise_is_met = premise_is_met;
+      soundness_kept = soundness_kept;
+      made_is_sound = made_is_sound;
+      refused_making = refused_making;
+      never_bad_state = never_bad_state;
+      nothing_left_to_join = nothing_left_to_join;
     }

@@ -22,7 +22,7 @@ done v = record { number = 0; values = v ∷ [] }
 -- a request for any block of class k
 pub data Requests : Call → ℕ → Type 0 where
   alloc : (n : ℕ) → Requests (Alloc n) (wanted (rounded n))
-  alloc-aligned : (n a : ℕ) → is_power_of_two a ≡ true → Requests (AllocAligned n a) (wanted (rounded_aligned n a))
+  alloc_aligned : (n a : ℕ) → is_power_of_two a ≡ true → Requests (AllocAligned n a) (wanted (rounded_aligned n a))
 
 -- a grant of a block of class k, by each of the three calls
 pub data Grants : Call → ℕ → Type 0 where
@@ -32,7 +32,7 @@ pub data Grants : Call → ℕ → Type 0 where
 -- a release of the block of class k at s, by each of the two calls
 pub data Releases : Call → ℕ → ℕ → Type 0 where
   dealloc : (s n : ℕ) → Releases (Dealloc s n) (wanted (rounded n)) s
-  dealloc-aligned : (s n a : ℕ) → is_power_of_two a ≡ true → Releases (DeallocAligned s n a) (wanted (rounded_aligned n a)) s
+  dealloc_aligned : (s n a : ℕ) → is_power_of_two a ≡ true → Releases (DeallocAligned s n a) (wanted (rounded_aligned n a)) s
 
 -- calls that release these blocks, one each, in this order
 pub data ReleaseAll : List Call → List Block → Type 0 where
@@ -122,16 +122,16 @@ NothingLeftToJoin = (c : Call) (words : List ℕ) → soundb words ≡ true → 
 
 -- all of them
 pub record Demand3 : Type 0 where
-  pub free-blocks-are-largest : FreeBlocksAreLargest
-  pub release-restores : ReleaseRestores
+  pub free_blocks_are_largest : FreeBlocksAreLargest
+  pub release_restores : ReleaseRestores
   pub any_order : AnyOrder
-  pub refused-for-want : RefusedForWant
-  pub refused-at-start : RefusedAtStart
-  pub premise-is-needed : PremiseIsNeeded
-  pub touch-is-near : TouchIsNear
-  pub premise-is-met : PremiseIsMet
-  pub soundness-kept : SoundnessKept
-  pub made-is-sound : MadeIsSound
-  pub refused-making : RefusedMaking
-  pub never-bad-state : NeverBadState
-  pub nothing-left-to-join : NothingLeftToJoin
+  pub refused_for_want : RefusedForWant
+  pub refused_at_start : RefusedAtStart
+  pub premise_is_needed : PremiseIsNeeded
+  pub touch_is_near : TouchIsNear
+  pub premise_is_met : PremiseIsMet
+  pub soundness_kept : SoundnessKept
+  pub made_is_sound : MadeIsSound
+  pub refused_making : RefusedMaking
+  pub never_bad_state : NeverBadState
+  pub nothing_left_to_join : NothingLeftToJoin

@@ -88,4 +88,4 @@ pub record Added (x : ℕ) (rs : List Range) : Type 0 where
 
 pub record FreeFrame (h : History) (x : ℕ) : Type 0 where
   pub added : Added x h.ranges
-  pub not-granted : Covered (Granted h.grants) x → ⊥
+  pub not_granted : Covered (Granted h.grants) x → ⊥

@@ -23,7 +23,7 @@ module _ (h : Heap) (arena ledger : List ℕ) where
   -- a heap that is not sound
   pub unsound : (call : Call) → soundb h arena ledger ≡ false → Says (outcome call (state h arena ledger)) (record { answer = Refused BadState; heap = h }) arena ledger
   unfolding outcome
-  unsound call e = rw (e, outcome) (record { number_is = refl; value-is = refl; state-is = refl })
+  unsound call e = rw (e, outcome) (record { number_is = refl; value_is = refl; state_is = refl })
 
   module _ (call : Call) (sound : soundb h arena ledger ≡ true) where
     pub decided : {r : Reply} {a l : List ℕ} → Says (carried (state h arena ledger) (decide call (state h arena ledger))) r a l → Says (outcome call (state h arena ledger)) r a l
@@ -32,13 +32,13 @@ module _ (h : Heap) (arena ledger : List ℕ) where
 
     pub figure : (v : ℕ) → decide call (state h arena ledger) ≡ done v (state h arena ledger)
         → Says (outcome call (state h arena ledger)) (record { answer = Done v; heap = h }) arena ledger
-    figure v e = decided (rw e (record { number_is = refl; value-is = refl; state-is = refl }))
+    figure v e = decided (rw e (record { number_is = refl; value_is = refl; state_is = refl }))
 
   -- an end that is no number of 64 bits is above every arena
   pub past-64-bits : (start size : ℕ) → start < 2 ^ 64 → soundb h arena ledger ≡ true → 2 ^ 64 ≤ start + size
       → Says (outcome (Init start size) (state h arena ledger)) (record { answer = Refused BadRange; heap = h }) arena ledger
   unfolding decide
-  past-64-bits start size p sound out = decided (Init start size) sound (rw above (record { number_is = refl; value-is = refl; state-is = refl }))
+  past-64-bits start size p sound out = decided (Init start size) sound (rw above (record { number_is = refl; value_is = refl; state_is = refl }))
     where
       above : adding start (start + size) (state h arena ledger) ≡ refused BadRange
       above =

@@ -13,8 +13,8 @@ use Rattle.heap_core.specs.Parts.{refused_with}
 
 pub says-refused : (h : Heap) (arena ledger : List ℕ) (r : Refusal) (reply : Reply) (d : Decision) → d ≡ refused r → reply ≡ refused_with h r
     → Says (carried (state h arena ledger) d) reply arena ledger
-says-refused h arena ledger r reply d e f = rw (e, f) (record { number_is = refl; value-is = refl; state-is = refl })
+says-refused h arena ledger r reply d e f = rw (e, f) (record { number_is = refl; value_is = refl; state_is = refl })
 
 pub says-done : (before after : State) (h : Heap) (arena ledger : List ℕ) (value : ℕ) (d : Decision) → d ≡ done value after → state h arena ledger ≡ after
     → Says (carried before d) (record { answer = Done value; heap = h }) arena ledger
-says-done before after h arena ledger value d e f = rw e (record { number_is = refl; value-is = refl; state-is = f })
+says-done before after h arena ledger value d e f = rw e (record { number_is = refl; value_is = refl; state_is = f })

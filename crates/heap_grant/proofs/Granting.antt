@@ -51,7 +51,7 @@ module _ (st : State) (from class size : ℕ) (g : Grantable st from class size)
   pub servable : Servable (memory st) from class
   servable =
       let p = head-placed st.heap st.arena st.ledger from sound g.has_block in
-      record { suffices = g.suffices; is-class = g.is-class; has_block = g.has_block; wide = wide; ends = omega (arith, p.inside, sound.ranges.arena-high) }
+      record { suffices = g.suffices; is_class = g.is_class; has_block = g.has_block; wide = wide; ends = omega (arith, p.inside, sound.ranges.arena-high) }
 
   pub record Fits : Type 0 where
     pub class-fits : class < 64
@@ -66,10 +66,10 @@ module _ (st : State) (from class size : ℕ) (g : Grantable st from class size)
       let c = counters-small st.heap st.arena st.ledger sound in
       let e : class + (from - class) ≡ from = omega (arith, g.suffices) in
       let b : head class (split_down (from - class) class (memory st)) ≡ head from (memory st) =
-      halved-head (from - class) class (memory st) (omega (arith, g.is-class)) ∙ ap (λ (j : ℕ). head j (memory st)) e in
+      halved-head (from - class) class (memory st) (omega (arith, g.is_class)) ∙ ap (λ (j : ℕ). head j (memory st)) e in
       let m : 2 ^ class ≤ 2 ^ from = pow_mono g.suffices in
       record {
-        class-fits = omega (arith, g.suffices, g.is-class);
+        class-fits = omega (arith, g.suffices, g.is_class);
         size_fits = omega (arith, g.holds, p.inside, sound.ranges.arena-high);
         block-fits = omega (arith, p.inside, sound.ranges.arena-high);
         user-fits = omega (arith, g.holds, p.inside, sound.ranges.arena-high, c.user);
@@ -88,8 +88,8 @@ module _ (st : State) (from class size : ℕ) (g : Grantable st from class size)
     pub grant-says : (words : List ℕ) (sized : ℕ) → words ≡ ledger_words (length st.ledger) (enter (grant class size block) (granted st)) → sized ≡ size_of class
         → Says (carried st (grant_done from class size st)) (record { answer = Done block; heap = granted_heap heads (st.heap.count + 1) (st.heap.user + size) (st.heap.allocated + sized) st.heap }) arena words
     grant-says words sized e z =
-        let two : sized ≡ 2 ^ class = z ∙ size_is class (omega (arith, g.suffices, g.is-class)) in
-        record { number_is = refl; value-is = block-is; state-is = rw (e, sym (one_more block), two, block-is) (left taken.memory) }
+        let two : sized ≡ 2 ^ class = z ∙ size_is class (omega (arith, g.suffices, g.is_class)) in
+        record { number_is = refl; value_is = block-is; state_is = rw (e, sym (one_more block), two, block-is) (left taken.memory) }
       where
         left : {x : Memory} → mem heads arena ≡ x
             → state (granted_heap heads (length (enter (grant class size (head class (split_down (from - class) class (memory st)))) (granted st))) (st.heap.user + size) (st.heap.allocated + 2 ^ class) st.heap) arena
@@ -165,7 +165,7 @@ module _ (size align : ℕ) (st : State) where
             record {
               sound = sound;
               suffices = s.suffices;
-              is-class = served;
+              is_class = served;
               word = class-word size align;
               has_block = s.has_block;
               holds = class-holds size align (omega (arith, s.suffices));

@@ -10,7 +10,7 @@ use Rattle.heap_core.specs.Deciding.{Decision, memory, granted, with_grants}
 pub record Grantable (st : State) (from class size : ℕ) : Type 0 where
   pub sound : is_sound st ≡ true
   pub suffices : class ≤ from
-  pub is-class : from < 33
+  pub is_class : from < 33
   pub word : 3 ≤ class
   pub has_block : head from (memory st) ≡ 0 → ⊥
   pub holds : size ≤ 2 ^ class

@@ -17,7 +17,7 @@ use Rattle.heap_held.specs.Crossed.{Crossed, keeping, kept_unless}
 pub crossed : {o : Outcome} {reply : Reply} {n v : ℕ} {h : Heap} {arena ledger : List ℕ} → Says o reply arena ledger
     → (n ≡ (paper reply.answer).number) × (v ≡ (paper reply.answer).value) × (h ≡ reply.heap) → Crossed o n v h arena ledger
 crossed {arena = arena} {ledger = ledger} s e =
-    record { number_is = e.0 ∙ s.number_is; value-is = e.1 ∙ s.value-is; state-is = ap (λ (x : Heap). state x arena ledger) e.2 ∙ s.state-is }
+    record { number_is = e.0 ∙ s.number_is; value_is = e.1 ∙ s.value_is; state_is = ap (λ (x : Heap). state x arena ledger) e.2 ∙ s.state_is }
 
 -- the same of a call that leaves everything as it is
 pub crossed-read : {o : Outcome} {a : Answer} {r : CAnswer} {h : Heap} {arena ledger : List ℕ} → Says o (record { answer = a; heap = h }) arena ledger
@@ -43,20 +43,20 @@ module _ (h : Heap) (o : Outcome) (reply : Reply) (arena ledger : List ℕ) (s :
   pub made : (v : ℕ) → reply.answer ≡ Done v → Says (keeping h o) reply arena ledger
   made v e =
       let n : o.number ≡ 0 = sym s.number_is ∙ ap (λ (a : Answer). (paper a).number) e in
-      record { number_is = s.number_is; value-is = s.value-is; state-is = s.state-is ∙ rw n refl }
+      record { number_is = s.number_is; value_is = s.value_is; state_is = s.state_is ∙ rw n refl }
 
   pub not_made : (r : Refusal) → reply.answer ≡ Refused r → Says (keeping h o) (record { answer = Refused r; heap = h }) arena ledger
   not_made r e =
       let n : number_of r ≡ o.number = ap (λ (a : Answer). (paper a).number) (sym e) ∙ s.number_is in
-      let v : 0 ≡ o.value = ap (λ (a : Answer). (paper a).value) (sym e) ∙ s.value-is in
+      let v : 0 ≡ o.value = ap (λ (a : Answer). (paper a).value) (sym e) ∙ s.value_is in
       let k : h ≡ kept_unless o.number h o.state.heap = sym (kept r h o.state.heap) ∙ ap (λ (m : ℕ). kept_unless m h o.state.heap) n in
-      let a : arena ≡ o.state.arena = ap (λ (x : State). x.arena) s.state-is in
-      let l : ledger ≡ o.state.ledger = ap (λ (x : State). x.ledger) s.state-is in
-      record { number_is = n; value-is = v; state-is = λ i. state (k i) (a i) (l i) }
+      let a : arena ≡ o.state.arena = ap (λ (x : State). x.arena) s.state_is in
+      let l : ledger ≡ o.state.ledger = ap (λ (x : State). x.ledger) s.state_is in
+      record { number_is = n; value_is = v; state_is = λ i. state (k i) (a i) (l i) }
 
 -- one answer, one record, one list of words each
 pub one-crossing : {o : Outcome} {n m v u : ℕ} {h g : Heap} {arena other ledger another : List ℕ} → Crossed o n v h arena ledger → Crossed o m u g other another
     → (n ≡ m) × (v ≡ u) × (h ≡ g) × (arena ≡ other) × (ledger ≡ another)
 one-crossing a b =
-    let e = a.state-is ∙ sym b.state-is in
-    (a.number_is ∙ sym b.number_is, a.value-is ∙ sym b.value-is, ap (λ (s : State). s.heap) e, ap (λ (s : State). s.arena) e, ap (λ (s : State). s.ledger) e)
+    let e = a.state_is ∙ sym b.state_is in
+    (a.number_is ∙ sym b.number_is, a.value_is ∙ sym b.value_is, ap (λ (s : State). s.heap) e, ap (λ (s : State). s.arena) e, ap (λ (s : State). s.ledger) e)

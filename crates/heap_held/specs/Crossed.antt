@@ -7,8 +7,8 @@ use Rattle.heap_state.specs.State.{State, state, Outcome, making}
 -- these two numbers, and the record and the words of arena and ledger afterwards, are the outcome's
 pub record Crossed (o : Outcome) (number value : ℕ) (heap : Heap) (arena ledger : List ℕ) : Type 0 where
   pub number_is : number ≡ o.number
-  pub value-is : value ≡ o.value
-  pub state-is : state heap arena ledger ≡ o.state
+  pub value_is : value ≡ o.value
+  pub state_is : state heap arena ledger ≡ o.state
 
 -- "Made in place, a refused making keeps the record's words" (docs/DECISIONS.md): number 0 alone is a heap that was made
 abbrev pub kept_unless : ℕ → Heap → Heap → Heap

@@ -84,4 +84,4 @@ module _ (st : State) (h : Healthy st) where
       judged _ BadRange _
       λ ranges. judged _ NullStart _
       λ null. judged _ Overlap _
-      λ miss. let g = added s e ranges null miss in does (record { value-is = refl; lists-are = lists-is g; healthy = kept-ledger st h g })
+      λ miss. let g = added s e ranges null miss in does (record { value_is = refl; lists_are = lists-is g; healthy = kept-ledger st h g })

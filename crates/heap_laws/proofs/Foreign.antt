@@ -32,4 +32,4 @@ member-found k n a (Memᴰ.tail {x} {xs} m) = some-later (same k n a) x xs (memb
 pub foreign-store : (st : State) → Healthy st → (k n a w v : ℕ) → Memᴰ (grant k n a) (granted st) → Word w k a → Undisturbed st (stored w v st)
 foreign-store st h k n a w v granted-it inside =
     let g = word-stored st h k n a (member-found k n a granted-it) w v inside in
-    record { lists-are = lists-is g; healthy = kept-ledger st h g }
+    record { lists_are = lists-is g; healthy = kept-ledger st h g }

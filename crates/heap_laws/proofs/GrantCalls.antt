@@ -65,7 +65,7 @@ module _ (st : State) (h : Healthy st) (k size : ℕ) (low : 3 ≤ k) (holds-it 
   served j s e =
       let g = grant-managed low s (holds st h).managed in
       let f : first j (lists (memory st)) ≡ s.block = ap (λ (l : List ℕ). get_or l 0 0) s.is in
-      rw (e, g.0) (record { value-is = sym f; lists-are = lists-is g.1; healthy = entered st h k size low holds-it s.block g.1 room })
+      rw (e, g.0) (record { value_is = sym f; lists_are = lists-is g.1; healthy = entered st h k size low holds-it s.block g.1 room })
 
 pub granting-right : (st : State) → Healthy st → (size align : ℕ) →
     Right (value_after (Alloc size align) st) (lists_after (Alloc size align) st) (granting size align st)

@@ -13,7 +13,7 @@ use Rattle.heap_state.specs.Lists.{Memory, head, pop, split, split_down, first_c
 use Rattle.heap_blocks.specs.Sound.{Block, blk}
 use Rattle.heap_laws.specs.ListRules.{of_class, first, push_l, pop_l, split_l, split_down_l, serving_l, grant_l}
 use Rattle.heap_laws.proofs.Managing.{Managed, push-managed, class-below}
-use Rattle.heap_laws.proofs.Taking.{head-is, pop-managed}
+use Rattle.heap_laws.proofs.Taking.{head_is, pop-managed}
 use Rattle.heap_laws.proofs.Halves.{halve-managed}
 
 pub pushed-first : (k a : ℕ) (ls : List (List ℕ)) → k < length ls → of_class k (push_l k a ls) ≡ a ∷ of_class k ls
@@ -77,7 +77,7 @@ module _ {order n total : ℕ} {others : List Block} where
       let f : first (suc k) ls ≡ a = ap (λ (l : List ℕ). get_or l 0 0) e in
       let here : suc k < 33 = class-below (suc k) g (omega (arith, ap length e)) in
       let upper = push-managed k (a + 2 ^ k) (halve-managed low (pop-managed (suc k) g e)) in
-      rw (head-is (suc k) g e, f) (push-managed k a upper, _, pushed-first k a (push_l k (a + 2 ^ k) (pop_l (suc k) ls)) (omega (arith, upper.lists-33)))
+      rw (head_is (suc k) g e, f) (push-managed k a upper, _, pushed-first k a (push_l k (a + 2 ^ k) (pop_l (suc k) ls)) (omega (arith, upper.lists-33)))
 
   pub down-managed : {m : Memory} {ls : List (List ℕ)} {a : ℕ} {xs : List ℕ} (d k : ℕ) → 3 ≤ k → Managed order n total m ls others →
       of_class (k + d) ls ≡ a ∷ xs →
@@ -102,4 +102,4 @@ module _ {order n total : ℕ} {m : Memory} {ls : List (List ℕ)} {others : Lis
       let z : k + (j - k) ≡ j = omega (arith, s.from) in
       let e : of_class (k + (j - k)) ls ≡ s.block ∷ s.rest = rw z s.is in
       let d = down-managed (j - k) k low g e in
-      (head-is k d.managed d.is, pop-managed k d.managed d.is)
+      (head_is k d.managed d.is, pop-managed k d.managed d.is)

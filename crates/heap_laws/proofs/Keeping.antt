@@ -8,7 +8,7 @@ use lib.ListN.{length, take, length-map, length-take}
 use Rattle.answers.specs.declared.Refusal.{Refusal}
 use Rattle.words.proofs.Pad.{length-pad}
 use Rattle.ledger.specs.Ledger.{Grant, grants, grant_of, word_of, ledger_words}
-use Rattle.ledger.proofs.Grants.{Records, records-fit}
+use Rattle.ledger.proofs.Grants.{Records, records_fit}
 use Rattle.ledger.proofs.Ledgers.{grants-words, words-kept}
 use Rattle.heap_state.specs.Lists.{Memory}
 use Rattle.heap_blocks.specs.Sound.{Block, bytes_of, requests}
@@ -31,7 +31,7 @@ module _ (st : State) (h : Healthy st) where
   sound-state = sound-fact st.heap st.arena st.ledger h.sound
 
   pub holds : Held st
-  holds = held st h.heads-33 sound-state
+  holds = held st h.heads_33 sound-state
 
   module _ {m : Memory} {ls : List (List ℕ)} where
     -- other lists, and the grants as they were
@@ -40,7 +40,7 @@ module _ (st : State) (h : Healthy st) where
         let s = sound-state in
         let r = s.ranges in
         record {
-          heads-33 = g.heads-33;
+          heads_33 = g.heads_33;
           sound = sounds (with_lists st m total) (own-words g)
               (record {
                 arena-low = omega (arith, g.words, r.arena-low);
@@ -61,11 +61,11 @@ module _ (st : State) (h : Healthy st) where
     kept-grants {gs} {user} {allocated} g rows room u a =
         let r = sound-state.ranges in
         let n : ℕ = length st.ledger in
-        let e : grants (length gs) (ledger_words n gs) ≡ gs = grants-words n gs room (records-fit rows) in
+        let e : grants (length gs) (ledger_words n gs) ≡ gs = grants-words n gs room (records_fit rows) in
         let l : length (ledger_words n gs) ≡ n = length-pad n (map word_of gs) in
         let k = words-kept n gs room r.ledger-high rows in
         record {
-          heads-33 = g.heads-33;
+          heads_33 = g.heads_33;
           sound = sounds (with_grants st m gs user allocated) {ls = ls} (rw e (own-words g))
               (record {
                 arena-low = omega (arith, g.words, r.arena-low);

@@ -41,7 +41,7 @@ module _ (order : ℕ) (arena ledger : List ℕ) where
     some = omega arith;
     classes = high;
     lists-33 = refl;
-    heads-33 = refl;
+    heads_33 = refl;
     words = refl;
     chains = fresh-chain;
     placed = placing.none;
@@ -54,7 +54,7 @@ module _ (order : ℕ) (arena ledger : List ℕ) where
       let e : length {A = ℕ} (replicate (length ledger) 0) ≡ length ledger = length-replicate (length ledger) 0 in
       let r : Ranges (fresh_heap order) arena (replicate (length ledger) 0) =
       ranges-fact (fresh_heap order) arena (replicate (length ledger) 0) (rw (e, l, o) (le-leb 0 (length ledger) (omega arith))) in
-      record { heads-33 = refl; sound = sounds fresh (fresh-managed r.arena-low r.order-high) r refl refl (zeros (length ledger)) refl refl }
+      record { heads_33 = refl; sound = sounds fresh (fresh-managed r.arena-low r.order-high) r refl refl (zeros (length ledger)) refl refl }
 
   pub made-sound : (making order arena ledger).number ≡ 0 → Healthy (making order arena ledger).state
   unfolding making

@@ -23,7 +23,7 @@ pub record Managed (order n total : ℕ) (m : Memory) (ls : List (List ℕ)) (ot
   pub some : 0 < n
   pub classes : order ≤ 33
   pub lists-33 : length ls ≡ 33
-  pub heads-33 : length m.heads ≡ 33
+  pub heads_33 : length m.heads ≡ 33
   pub words : length m.arena ≡ n
   pub chains : (j : ℕ) → Chain m.arena (head j m) (of_class j ls)
   pub placed : Placed order (n * 8) (free_of 0 ls ++ others)
@@ -38,7 +38,7 @@ module _ {order n total : ℕ} {m : Memory} {ls : List (List ℕ)} where
     some = g.some;
     classes = g.classes;
     lists-33 = g.lists-33;
-    heads-33 = g.heads-33;
+    heads_33 = g.heads_33;
     words = g.words;
     chains = g.chains;
     placed = p;
@@ -59,7 +59,7 @@ module _ {order n total : ℕ} {m : Memory} {ls : List (List ℕ)} where
         some = g.some;
         classes = g.classes;
         lists-33 = g.lists-33;
-        heads-33 = g.heads-33;
+        heads_33 = g.heads_33;
         words = g.words;
         chains = g.chains;
         placed = placed-shuffled s (next f b g.placed);
@@ -123,9 +123,9 @@ push-managed {order} {n} {total} {m} {ls} {others} k a g = go (in-hand g)
           some = g.some;
           classes = g.classes;
           lists-33 = length-set ls k (a ∷ of_class k ls) ∙ g.lists-33;
-          heads-33 = length-set m.heads k a ∙ g.heads-33;
+          heads_33 = length-set m.heads k a ∙ g.heads_33;
           words = length-set m.arena (a / 8) (head k m) ∙ g.words;
-          chains = changed m.heads (linked m.arena a (head k m)) ls k a (a ∷ of_class k ls) (omega (arith, g.heads-33)) (omega (arith, g.lists-33))
+          chains = changed m.heads (linked m.arena a (head k m)) ls k a (a ∷ of_class k ls) (omega (arith, g.heads_33)) (omega (arith, g.lists-33))
               (push-chain m.arena (head k m) a (of_class k ls) (g.chains k) (λ z. omega (arith, f.above)) (omega (arith, f.inside, g.words, w.to)) (away k))
               (λ j q. frame m.arena (head j m) (a / 8) (head k m) (of_class j ls) (g.chains j) (away j));
           placed = placed-shuffled s g.placed;
@@ -143,7 +143,7 @@ store-managed {order} {n} {total} {m} {ls} {others} {k} {a} w v inside g = go (i
       some = g.some;
       classes = g.classes;
       lists-33 = g.lists-33;
-      heads-33 = g.heads-33;
+      heads_33 = g.heads_33;
       words = length-set m.arena w v ∙ g.words;
       chains = λ j. frame m.arena (head j m) w v (of_class j ls) (g.chains j)
           (away-class j ls inside (beside-front (free_of 0 ls) others b) (placed-front (free_of 0 ls) others p));

@@ -53,15 +53,15 @@ module _ (st : State) (h : Healthy st) (k size a : ℕ) (found : some (same k si
 
   -- ---- releasing
 
-  released : Follows (after_release k a st).nodes-compared (after_release k a st).lists (release (top st) k a (memory st)).nodes-compared
+  released : Follows (after_release k a st).nodes_compared (after_release k a st).lists (release (top st) k a (memory st)).nodes_compared
       (with_grants st (release (top st) k a (memory st)).memory (strike (same k size a) (granted st)) (st.heap.user - size) (st.heap.allocated - 2 ^ k))
   released =
       let hd = holds st h in
       let r = hd.ranges in
       let f = release-managed (top st) k a (omega (arith, row.high)) (omega (arith, r.order-low)) in-hand-granted in
       record {
-        value-is = f.compared;
-        lists-are = lists-is f.managed;
+        value_is = f.compared;
+        lists_are = lists-is f.managed;
         healthy = kept-grants st h f.managed (records-strike (same k size a) hd.rows) (omega (arith, same_length out, granted-length st h, r.room))
             (omega (arith, same-requests out, hd.user)) (omega (arith, same_bytes (mapped block_of out), hd.allocated));
       }
@@ -115,4 +115,4 @@ module _ (st : State) (h : Healthy st) (a size align : ℕ) where
       λ power. judged (not_granted a size align st) NotGranted _
       λ found.
       let g = zeroed st h (class_for size align) size a (not-false (some (same (class_for size align) size a) (granted st)) found) in
-      does (record { value-is = refl; lists-are = lists-is g; healthy = kept-ledger st h g })
+      does (record { value_is = refl; lists_are = lists-is g; healthy = kept-ledger st h g })

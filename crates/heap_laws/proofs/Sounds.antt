@@ -57,7 +57,7 @@ classed-rows : {order floor : ℕ} {gs : List Grant} → Records order floor gs 
 classed-rows none = nothing
 classed-rows (next l s f rest) = also (record { low = f.low; high = f.high }) (classed-rows rest)
 
-module _ (st : State) (heads-33 : length st.heap.heads ≡ 33) (s : Sound st.heap st.arena st.ledger) where
+module _ (st : State) (heads_33 : length st.heap.heads ≡ 33) (s : Sound st.heap st.arena st.ledger) where
   -- each head's walk is a chain
   walk : (j : ℕ) → Chain st.arena (head j (memory st)) (list j (memory st))
   walk j =
@@ -92,7 +92,7 @@ module _ (st : State) (heads-33 : length st.heap.heads ≡ 33) (s : Sound st.hea
           some = omega (arith, s.ranges.arena-low);
           classes = s.ranges.order-high;
           lists-33 = listed-length 33 0 (memory st);
-          heads-33 = heads-33;
+          heads_33 = heads_33;
           words = refl;
           chains = chains;
           placed = placed-fact bytes (free_of 0 (lists_from 33 0 (memory st)) ++ blocks_of (granted st)) classed

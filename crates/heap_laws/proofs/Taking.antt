@@ -35,9 +35,9 @@ taken-shuffle k a us zs ls others h e = then (after others (free-taken k a us zs
 
 module _ {order n total : ℕ} {m : Memory} {ls : List (List ℕ)} {others : List Block} where
   -- the first node of a list is its head
-  pub head-is : {a : ℕ} {xs : List ℕ} (k : ℕ) → Managed order n total m ls others → of_class k ls ≡ a ∷ xs → head k m ≡ a
+  pub head_is : {a : ℕ} {xs : List ℕ} (k : ℕ) → Managed order n total m ls others → of_class k ls ≡ a ∷ xs → head k m ≡ a
   unfolding Chain
-  head-is {a} {xs} k g e = let c : Chain m.arena (head k m) (a ∷ xs) = rw e at (g.chains k) in c.0
+  head_is {a} {xs} k g e = let c : Chain m.arena (head k m) (a ∷ xs) = rw e at (g.chains k) in c.0
 
   pub pop-managed : {a : ℕ} {xs : List ℕ} (k : ℕ) → Managed order n total m ls others → of_class k ls ≡ a ∷ xs →
       Managed order n total (pop k m) (pop_l k ls) (blk k a ∷ others)
@@ -50,9 +50,9 @@ module _ {order n total : ℕ} {m : Memory} {ls : List (List ℕ)} {others : Lis
         some = g.some;
         classes = g.classes;
         lists-33 = length-set ls k xs ∙ g.lists-33;
-        heads-33 = length-set m.heads k _ ∙ g.heads-33;
+        heads_33 = length-set m.heads k _ ∙ g.heads_33;
         words = g.words;
-        chains = changed m.heads m.arena ls k _ xs (omega (arith, g.heads-33)) (omega (arith, g.lists-33)) c.2 (λ j q. g.chains j);
+        chains = changed m.heads m.arena ls k _ xs (omega (arith, g.heads_33)) (omega (arith, g.lists-33)) c.2 (λ j q. g.chains j);
         placed = placed-shuffled s g.placed;
         bytes = sym (same_bytes s) ∙ g.bytes;
       })
@@ -102,9 +102,9 @@ module _ {order n total : ℕ} {m : Memory} {ls : List (List ℕ)} {others : Lis
         some = g.some;
         classes = g.classes;
         lists-33 = length-set ls k (without a xs) ∙ g.lists-33;
-        heads-33 = length-set m.heads k links.head ∙ g.heads-33;
+        heads_33 = length-set m.heads k links.head ∙ g.heads_33;
         words = removed-length (head k m) m.arena (link_to (position a xs) xs) a ∙ g.words;
-        chains = changed m.heads links.words ls k links.head (without a xs) (omega (arith, g.heads-33, here)) (omega (arith, g.lists-33, here))
+        chains = changed m.heads links.words ls k links.head (without a xs) (omega (arith, g.heads_33, here)) (omega (arith, g.lists-33, here))
             (found-removed m.arena (head k m) a xs (g.chains k) found)
             (λ j q. unlink-frame m.arena (head k m) (head j m) a (position a xs) xs (of_class j ls) (g.chains j)
             (lists-apart j k ls q (omega (arith, g.lists-33, here)) (placed-front (free_of 0 ls) others g.placed) [] xs refl) (omega (arith, before)));

@@ -27,9 +27,9 @@ decided st h (AddToHeap s e) = adding-right st h s e
 decided st h (Alloc size align) = granting-right st h size align
 decided st h (Dealloc a size align) = releasing-right st h a size align
 decided st h (ZeroFill a size align) = zeroing-right st h a size align
-decided st h StatsAllocUser = does (record { value-is = refl; lists-are = refl; healthy = h })
-decided st h StatsAllocActual = does (record { value-is = refl; lists-are = refl; healthy = h })
-decided st h StatsTotalBytes = does (record { value-is = refl; lists-are = refl; healthy = h })
+decided st h StatsAllocUser = does (record { value_is = refl; lists_are = refl; healthy = h })
+decided st h StatsAllocActual = does (record { value_is = refl; lists_are = refl; healthy = h })
+decided st h StatsTotalBytes = does (record { value_is = refl; lists_are = refl; healthy = h })
 
 -- a refusal has a number above 0
 refusal-above-0 : (r : Refusal) → 0 < number_of r

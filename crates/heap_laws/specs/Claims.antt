@@ -11,7 +11,7 @@ use Rattle.heap_laws.specs.ListRules.{lists, first, serving_l, grant_l, Released
 
 -- a sound heap, with the "33 list heads" that its record has
 pub record Healthy (st : State) : Type 0 where
-  pub heads-33 : length st.heap.heads ≡ 33
+  pub heads_33 : length st.heap.heads ≡ 33
   pub sound : is_sound st ≡ true
 
 -- ---- the lists, and the value that is answered, by the rules of the lists
@@ -42,7 +42,7 @@ abbrev pub value_after : Call → State → ℕ
 value_after (Init s n) st = 0
 value_after (AddToHeap s e) st = 0
 value_after (Alloc size align) st = first (served_by (class_for size align) st) (lists (memory st))
-value_after (Dealloc a size align) st = (after_release (class_for size align) a st).nodes-compared
+value_after (Dealloc a size align) st = (after_release (class_for size align) a st).nodes_compared
 value_after (ZeroFill a size align) st = 0
 value_after StatsAllocUser st = st.heap.user
 value_after StatsAllocActual st = st.heap.allocated
@@ -50,8 +50,8 @@ value_after StatsTotalBytes st = st.heap.total
 
 -- an answer and a state afterwards are those of the rules, and the heap is sound
 pub record Follows (value : ℕ) (after : List (List ℕ)) (v : ℕ) (st : State) : Type 0 where
-  pub value-is : v ≡ value
-  pub lists-are : lists (memory st) ≡ after
+  pub value_is : v ≡ value
+  pub lists_are : lists (memory st) ≡ after
   pub healthy : Healthy st
 
 -- ---- what other programs write
@@ -66,7 +66,7 @@ stored w v st = record { heap = st.heap; arena = set st.arena w v; ledger = st.l
 
 -- a state that another program left has the same lists, and is sound
 pub record Undisturbed (st after : State) : Type 0 where
-  pub lists-are : lists (memory after) ≡ lists (memory st)
+  pub lists_are : lists (memory after) ≡ lists (memory st)
   pub healthy : Healthy after
 
 -- ---- the heaps that there are

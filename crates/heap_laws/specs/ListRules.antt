@@ -53,15 +53,15 @@ grant_l j k ls = pop_l k (split_down_l (j - k) k ls)
 -- ---- releasing
 pub record ReleasedL : Type 0 where
   pub lists : List (List ℕ)
-  pub nodes-compared : ℕ
+  pub nodes_compared : ℕ
 
 -- "looks for its buddy from the head; both are taken out and the joined block is pushed one class up": the block of class k at a can go up so many
 -- classes, and `before` nodes were compared before
 unfoldable pub join_up_l : ℕ → ℕ → ℕ → ℕ → List (List ℕ) → ReleasedL
-join_up_l zero k a before ls = record { lists = ls; nodes-compared = before }
+join_up_l zero k a before ls = record { lists = ls; nodes_compared = before }
 join_up_l (suc above) k a before ls = elim (stands (buddy_of k a) (of_class k ls)) [
   | true ↦ join_up_l above (suc k) (min a (buddy_of k a)) (before + compared (buddy_of k a) (of_class k ls)) (push_l (suc k) (min a (buddy_of k a)) (remove_l k a (remove_l k (buddy_of k a) ls)))
-  | false ↦ record { lists = ls; nodes-compared = before + compared (buddy_of k a) (of_class k ls) }
+  | false ↦ record { lists = ls; nodes_compared = before + compared (buddy_of k a) (of_class k ls) }
 ]
 
 -- "A release pushes the block", and no block of the top class is joined

@@ -8,4 +8,4 @@ use Rattle.heap_lists.specs.Tallied.{Tallied}
 
 -- where a test answers that all is not well, no bytes are told
 pub wrong-is : {ok : Bool} {bytes : ℕ} {r : Tally} → r.ok ≡ false → ok ≡ false → Tallied ok bytes r
-wrong-is e f = record { ok-is = e ∙ sym f; bytes-are = λ t. absurd (clash t e) }
+wrong-is e f = record { ok_is = e ∙ sym f; bytes_are = λ t. absurd (clash t e) }

@@ -6,8 +6,8 @@ use Rattle.heap_lists.specs.declared.Tally.{Tally}
 
 -- what a test of free blocks answers: whether all is well, and then their bytes
 pub record Tallied (ok : Bool) (bytes : ℕ) (r : Tally) : Type 0 where
-  pub ok-is : r.ok ≡ ok
-  pub bytes-are : r.ok ≡ true → r.bytes ≡ bytes
+  pub ok_is : r.ok ≡ ok
+  pub bytes_are : r.ok ≡ true → r.bytes ≡ bytes
 
 abbrev pub Walked : ℕ → ℕ → List ℕ → Tally → Type 0
 Walked k head arena r = Tallied (listb (length arena * 8) k (length arena - 1) arena head) (bytes_of (list_blocks k (length arena) arena head)) r

@@ -16,17 +16,17 @@ use Rattle.heap_moves.specs.Moves.{mem, taken_out, released}
 pub taken-out-is : (heads arena words : List ℕ) (class node first : ℕ) (previous : Previous) → Left (removed (get_or heads class 0) arena previous node) first words
     → mem (set heads class first) words ≡ taken_out class previous node (mem heads arena)
 unfolding taken_out
-taken-out-is heads arena words class node first previous l = ap₂ (λ (h : ℕ) (ws : List ℕ). mem (set heads class h) ws) l.head-is l.words_are
+taken-out-is heads arena words class node first previous l = ap₂ (λ (h : ℕ) (ws : List ℕ). mem (set heads class h) ws) l.head_is l.words_are
 
 -- the joins to come of what is there, after so many compared nodes, are all that come after the push
 pub record Joins (top class block : ℕ) (before now : Memory) (k low compared : ℕ) : Type 0 where
   pub rest : join_up (top - k) k low compared now ≡ join_up (top - class) class block 0 before
   pub few : compared ≤ (k - class) * 1048576
   pub low-class : class ≤ k
-  pub is-class : k < 33
+  pub is_class : k < 33
 
 pub joins-start : (top class block : ℕ) (m : Memory) → class < 33 → Joins top class block m m class block 0
-joins-start top class block m h = record { rest = refl; few = omega arith; low-class = omega arith; is-class = h }
+joins-start top class block m h = record { rest = refl; few = omega arith; low-class = omega arith; is_class = h }
 
 pub release-is : (top class block : ℕ) (before now : Memory) → now ≡ push class block before → join_up (top - class) class block 0 now ≡ release top class block before
 unfolding release

@@ -34,7 +34,7 @@ enough (suc f) (suc g) top s n m t w h i =
     ⊎_elim (λ z. rw z (none (suc f) top s m ∙ sym (none (suc g) top s m)))
     (λ q.
     let p : Piece top s n (piece_size top s n) = piece top s n (omega arith) (omega arith) q (omega arith) in
-    let d = p.never-0 in
+    let d = p.never_0 in
     let l = p.within in
     one-push f top s n m (λ z. omega arith)
     ∙ enough f g top (s + piece_size top s n) (n - piece_size top s n) (push (size_class (piece_size top s n)) s m) t (omega arith) (omega arith) (omega arith)
@@ -46,7 +46,7 @@ module _ (top s n size : ℕ) (order : top < 33) (within : s + n < 2 ^ 64) (some
   its = rw is (piece top s n (omega arith) (omega arith) some (omega arith))
 
   pub piece-fits : (0 < size) × (size ≤ n)
-  piece-fits = (its.never-0, its.within)
+  piece-fits = (its.never_0, its.within)
 
   -- the piece's class is one of the 33
   pub piece-class : size_class size < 33

@@ -10,7 +10,7 @@ use Rattle.heap_moves.specs.Moves.{mem}
 pub push-is : (heads arena words : List ℕ) (class block first : ℕ) → Left (pushed (get_or heads class 0) arena block) first words
     → mem (set heads class first) words ≡ push class block (mem heads arena)
 unfolding push
-push-is heads arena words class block first l = ap₂ (λ (h : ℕ) (ws : List ℕ). mem (set heads class h) ws) l.head-is l.words_are
+push-is heads arena words class block first l = ap₂ (λ (h : ℕ) (ws : List ℕ). mem (set heads class h) ws) l.head_is l.words_are
 
 pub pop-is : (heads arena : List ℕ) (class first : ℕ) → first ≡ next arena (get_or heads class 0) → mem (set heads class first) arena ≡ pop class (mem heads arena)
 unfolding pop

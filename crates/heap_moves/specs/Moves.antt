@@ -12,7 +12,7 @@ mem heads arena = record { heads = heads; arena = arena }
 -- class `from` has a block, large enough for `class`, whose end is a number of 64 bits
 pub record Servable (m : Memory) (from class : ℕ) : Type 0 where
   pub suffices : class ≤ from
-  pub is-class : from < 33
+  pub is_class : from < 33
   pub has_block : head from m ≡ 0 → ⊥
   pub wide : length m.heads ≡ 33
   pub ends : head from m + 2 ^ from < 2 ^ 64
@@ -27,4 +27,4 @@ unfoldable pub taken_out : ℕ → Previous → ℕ → Memory → Memory
 taken_out class previous node m = with_list class (removed (head class m) m.arena previous node) m
 
 abbrev pub released : ℕ → Memory → Released
-released compared m = record { memory = m; nodes-compared = compared }
+released compared m = record { memory = m; nodes_compared = compared }

@@ -7,6 +7,6 @@ use Rattle.heap_records.specs.declared.Sums.{Sums}
 
 -- what a test of ledger records answers: whether all is well, and then the sums of requested bytes and of block sizes
 pub record Summed (ok : Bool) (ws : List ℕ) (r : Sums) : Type 0 where
-  pub ok-is : r.ok ≡ ok
-  pub user-is : r.ok ≡ true → r.user ≡ requests (map grant_of ws)
-  pub allocated-is : r.ok ≡ true → r.allocated ≡ bytes_of (blocks_of ws)
+  pub ok_is : r.ok ≡ ok
+  pub user_is : r.ok ≡ true → r.user ≡ requests (map grant_of ws)
+  pub allocated_is : r.ok ≡ true → r.allocated ≡ bytes_of (blocks_of ws)

@@ -100,7 +100,7 @@ module _ (address size align : ℕ) (st : State) where
 
   abbrev freed : Decision
   freed =
-      done (release (top st) (class_for size align) address (memory st)).nodes-compared
+      done (release (top st) (class_for size align) address (memory st)).nodes_compared
       (with_grants st (release (top st) (class_for size align) address (memory st)).memory (strike its (granted st)) (st.heap.user - size) (st.heap.allocated - 2 ^ class_for size align))
 
   abbrev cleared : Decision
@@ -156,13 +156,13 @@ module _ (address size align : ℕ) (st : State) where
         (record { answer = Done compared; heap = granted_heap heads (st.heap.count - 1) (st.heap.user - size) (st.heap.allocated - sized) st.heap }) arena words
     freed-says heads arena words compared sized e q z =
         let two : sized ≡ 2 ^ class = z ∙ size_is class (omega (arith, (recorded-in st class size address i sound found).class-high, sound.ranges.order-high)) in
-        subst (λ (k : ℕ). Says (carried st (done (release (top st) k address (memory st)).nodes-compared
+        subst (λ (k : ℕ). Says (carried st (done (release (top st) k address (memory st)).nodes_compared
         (with_grants st (release (top st) k address (memory st)).memory (strike (same k size address) (granted st)) (st.heap.user - size) (st.heap.allocated - 2 ^ k))))
         (record { answer = Done compared; heap = granted_heap heads (st.heap.count - 1) (st.heap.user - size) (st.heap.allocated - sized) st.heap }) arena words) class-is
         (record {
           number_is = refl;
-          value-is = ap (λ (x : Released). x.nodes-compared) q;
-          state-is = rw (e, ← struck, ← one_less, two)
+          value_is = ap (λ (x : Released). x.nodes_compared) q;
+          state_is = rw (e, ← struck, ← one_less, two)
               (ap (λ (x : Released). with_grants st x.memory (strike (same class size address) (granted st)) (st.heap.user - size) (st.heap.allocated - 2 ^ class)) q);
         })
 

@@ -15,7 +15,7 @@ not_granted a size align st = not (some (same (class_for size align) size a) (gr
 unfoldable pub releasing : ℕ → ℕ → ℕ → State → Decision
 releasing a size align st =
     judge (refuse (not (is_power_of_two align)) BadAlign ∷ refuse (not_granted a size align st) NotGranted ∷ [])
-    (done (release (top st) (class_for size align) a (memory st)).nodes-compared
+    (done (release (top st) (class_for size align) a (memory st)).nodes_compared
     (with_grants st (release (top st) (class_for size align) a (memory st)).memory (strike (same (class_for size align) size a) (granted st)) (st.heap.user - size)
     (st.heap.allocated - 2 ^ class_for size align)))
 

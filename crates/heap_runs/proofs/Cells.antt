@@ -33,9 +33,9 @@ does-set : (cell : Cell) (value : ℕ) (lent : Lent) (arena ledger : List ℕ) (
 unfolding after printed
 does-set cell value lent arena ledger r arena' ledger' p q =
     record {
-      machine-is = p;
-      line-is = ap (line_of (take r.lent.words arena')) q ∙ line-of (inside cell lent) (take r.lent.words arena');
-      long-is = ap by_node q ∙ short (inside cell lent);
+      machine_is = p;
+      line_is = ap (line_of (take r.lent.words arena')) q ∙ line-of (inside cell lent) (take r.lent.words arena');
+      long_is = ap by_node q ∙ short (inside cell lent);
     }
 
 -- a word of one of the two
@@ -82,10 +82,10 @@ pub fits-record : (lent : Lent) (arena ledger : List ℕ) → Fits lent arena le
     → Fits r.lent arena ledger
 fits-record lent arena ledger f t heap r e =
     record {
-      arena-is = f.arena-is;
-      ledger-is = f.ledger-is;
-      words-fit = omega (arith, f.words-fit, ap (λ (x : Ran). x.lent.words) e ∙ words_of t);
-      records-fit = omega (arith, f.records-fit, ap (λ (x : Ran). x.lent.records) e ∙ records-of t);
+      arena_is = f.arena_is;
+      ledger_is = f.ledger_is;
+      words_fit = omega (arith, f.words_fit, ap (λ (x : Ran). x.lent.words) e ∙ words_of t);
+      records_fit = omega (arith, f.records_fit, ap (λ (x : Ran). x.lent.records) e ∙ records-of t);
     }
   where
     words_of : (b : Bool) → (cond b (ran_with (with_heap heap lent) Set) (ran_with lent BadLine)).lent.words ≡ lent.words
@@ -100,15 +100,15 @@ fits-record lent arena ledger f t heap r e =
 pub fits-words : (lent : Lent) (arena ledger : List ℕ) → Fits lent arena ledger → (arena' ledger' : List ℕ) → length arena' ≡ length arena → length ledger' ≡ length ledger
     → Fits lent arena' ledger'
 fits-words lent arena ledger f arena' ledger' p q =
-    record { arena-is = p ∙ f.arena-is; ledger-is = q ∙ f.ledger-is; words-fit = f.words-fit; records-fit = f.records-fit }
+    record { arena_is = p ∙ f.arena_is; ledger_is = q ∙ f.ledger_is; words_fit = f.words_fit; records_fit = f.records_fit }
 
 pub does-bad : (lent : Lent) (arena ledger : List ℕ) (r : Ran) → r ≡ ran_with lent BadLine → Does Bad (machine lent arena ledger) r arena ledger
 unfolding after printed
 does-bad lent arena ledger r e =
     record {
-      machine-is = ap (λ (x : Ran). machine x.lent arena ledger) e;
-      line-is = ap (λ (x : Ran). line_of (take x.lent.words arena) x.line) e;
-      long-is = ap (λ (x : Ran). by_node x.line) e;
+      machine_is = ap (λ (x : Ran). machine x.lent arena ledger) e;
+      line_is = ap (λ (x : Ran). line_of (take x.lent.words arena) x.line) e;
+      long_is = ap (λ (x : Ran). by_node x.line) e;
     }
 
 -- a head, and both at once

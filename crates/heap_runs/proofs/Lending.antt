@@ -35,20 +35,20 @@ part_length words part n h e = omega (arith, length-append part (drop n words), 
 pub fits-nothing : (lent : Lent) (arena ledger : List ℕ) → lent ≡ nothing_lent → length arena ≡ 4096 → length ledger ≡ 512 → Fits lent arena ledger
 fits-nothing lent arena ledger e p q =
     record {
-      arena-is = p;
-      ledger-is = q;
-      words-fit = omega (arith, ap (λ (l : Lent). l.words) e);
-      records-fit = omega (arith, ap (λ (l : Lent). l.records) e);
+      arena_is = p;
+      ledger_is = q;
+      words_fit = omega (arith, ap (λ (l : Lent). l.words) e);
+      records_fit = omega (arith, ap (λ (l : Lent). l.records) e);
     }
 
 pub fits-replied : (lent : Lent) (arena ledger : List ℕ) → Fits lent arena ledger → (r : Ran) (reply : Reply) (words records : ℕ) → words ≤ 4096 → records ≤ 512
     → r ≡ replied_with reply words records → (arena' ledger' : List ℕ) → length arena' ≡ length arena → length ledger' ≡ length ledger → Fits r.lent arena' ledger'
 fits-replied lent arena ledger f r reply words records h k e arena' ledger' p q =
     record {
-      arena-is = p ∙ f.arena-is;
-      ledger-is = q ∙ f.ledger-is;
-      words-fit = omega (arith, ap (λ (x : Ran). x.lent.words) e);
-      records-fit = omega (arith, ap (λ (x : Ran). x.lent.records) e);
+      arena_is = p ∙ f.arena_is;
+      ledger_is = q ∙ f.ledger_is;
+      words_fit = omega (arith, ap (λ (x : Ran). x.lent.words) e);
+      records_fit = omega (arith, ap (λ (x : Ran). x.lent.records) e);
     }
 
 -- over the first words of both
@@ -57,18 +57,18 @@ pub fits-lending : (lent : Lent) (arena ledger : List ℕ) → Fits lent arena l
     → Fits r.lent (arena' ++ drop n arena) (ledger' ++ drop k ledger)
 fits-lending lent arena ledger f r reply words records h i e arena' ledger' n k hn hk p q =
     fits-replied lent arena ledger f r reply words records h i e (arena' ++ drop n arena) (ledger' ++ drop k ledger)
-    (part_length arena arena' n (omega (arith, f.arena-is)) p) (part_length ledger ledger' k (omega (arith, f.ledger-is)) q)
+    (part_length arena arena' n (omega (arith, f.arena_is)) p) (part_length ledger ledger' k (omega (arith, f.ledger_is)) q)
 
 pub fits-ledger : (lent : Lent) (arena ledger : List ℕ) → Fits lent arena ledger → (r : Ran) (reply : Reply) (words records : ℕ) → words ≤ 4096 → records ≤ 512
     → r ≡ replied_with reply words records → (ledger' : List ℕ) (k : ℕ) → k ≤ 512 → length ledger' ≡ k → Fits r.lent arena (ledger' ++ drop k ledger)
 fits-ledger lent arena ledger f r reply words records h i e ledger' k hk q =
     fits-replied lent arena ledger f r reply words records h i e arena (ledger' ++ drop k ledger) refl
-    (part_length ledger ledger' k (omega (arith, f.ledger-is)) q)
+    (part_length ledger ledger' k (omega (arith, f.ledger_is)) q)
 
 -- ---- the line of a reply
 
 pub reply-line : (o : Outcome) (reply : Reply) (arena ledger : List ℕ) → Says o reply arena ledger → reply_text (paper reply.answer).number (paper reply.answer).value ≡ reply_text o.number o.value
-reply-line o reply arena ledger says = λ i. reply_text (says.number_is i) (says.value-is i)
+reply-line o reply arena ledger says = λ i. reply_text (says.number_is i) (says.value_is i)
 
 pub replied-line : (r : Ran) (reply : Reply) (words records : ℕ) (arena : List ℕ) → r ≡ replied_with reply words records
     → line_of (take r.lent.words arena) r.line ≡ reply_text (paper reply.answer).number (paper reply.answer).value
@@ -86,9 +86,9 @@ module _ (lent : Lent) (arena ledger : List ℕ) (r : Ran) (reply : Reply) (e : 
       let A = arena' ++ drop lent.words arena in
       let L = ledger' ++ drop lent.records ledger in
       record {
-        machine-is = ap (λ (x : Ran). machine x.lent A L) e ∙ ap (λ (s : State). relent s (machine lent arena ledger)) says.state-is;
-        line-is = replied-line r reply lent.words lent.records A e ∙ reply-line _ reply arena' ledger' says;
-        long-is = replied-short r reply lent.words lent.records e;
+        machine_is = ap (λ (x : Ran). machine x.lent A L) e ∙ ap (λ (s : State). relent s (machine lent arena ledger)) says.state_is;
+        line_is = replied-line r reply lent.words lent.records A e ∙ reply-line _ reply arena' ledger' says;
+        long_is = replied-short r reply lent.words lent.records e;
       }
 
   pub does-remake : (order : ℕ) (ledger' : List ℕ) → Says (remade order (machine lent arena ledger)) reply (take lent.words arena) ledger'
@@ -97,12 +97,12 @@ module _ (lent : Lent) (arena ledger : List ℕ) (r : Ran) (reply : Reply) (e : 
   does-remake order ledger' says =
       let L = ledger' ++ drop lent.records ledger in
       record {
-        machine-is =
+        machine_is =
             ap (λ (x : Ran). machine x.lent arena L) e
             ∙ ap (λ (a : List ℕ). machine (record { heap = reply.heap; words = lent.words; records = lent.records }) a L) (sym (take-append-drop lent.words arena))
-            ∙ ap (λ (s : State). relent s (machine lent arena ledger)) says.state-is;
-        line-is = replied-line r reply lent.words lent.records arena e ∙ reply-line _ reply (take lent.words arena) ledger' says;
-        long-is = replied-short r reply lent.words lent.records e;
+            ∙ ap (λ (s : State). relent s (machine lent arena ledger)) says.state_is;
+        line_is = replied-line r reply lent.words lent.records arena e ∙ reply-line _ reply (take lent.words arena) ledger' says;
+        long_is = replied-short r reply lent.words lent.records e;
       }
 
 -- ---- reading alone
@@ -110,26 +110,26 @@ module _ (lent : Lent) (arena ledger : List ℕ) (r : Ran) (reply : Reply) (e : 
 pub does-list : (class : ℕ) (lent : Lent) (arena ledger : List ℕ) (line : Printed) → Lists class (state lent.heap (take lent.words arena) (take lent.records ledger)) line
     → Does (ListOf class) (machine lent arena ledger) (ran_with lent line) arena ledger
 unfolding after printed
-does-list class lent arena ledger line l = record { machine-is = refl; line-is = l.line-is; long-is = l.long-is }
+does-list class lent arena ledger line l = record { machine_is = refl; line_is = l.line_is; long_is = l.long_is }
 
 pub does-stats : (lent : Lent) (arena ledger : List ℕ) (line : Printed) → Figured (state lent.heap (take lent.words arena) (take lent.records ledger)) line
     → Does Stats (machine lent arena ledger) (ran_with lent line) arena ledger
 unfolding after printed
-does-stats lent arena ledger line l = record { machine-is = refl; line-is = l.line-is; long-is = l.long-is }
+does-stats lent arena ledger line l = record { machine_is = refl; line_is = l.line_is; long_is = l.long_is }
 
 pub lists-unsound : (class : ℕ) (s : State) → is_sound s ≡ false → Lists class s (Printed·reply (Refused BadState))
-lists-unsound class s e = record { line-is = sym (ap (λ (t : Bool). listed t (list class (memory s))) e); long-is = sym e }
+lists-unsound class s e = record { line_is = sym (ap (λ (t : Bool). listed t (list class (memory s))) e); long_is = sym e }
 
 pub lists-sound : (class : ℕ) (s : State) (head count : ℕ) → is_sound s ≡ true → head ≡ get_or s.heap.heads class 0
     → count ≡ length (nodes (length s.arena) s.arena head) → Lists class s (Nodes head count)
 lists-sound class s head count e h k =
     let ns : nodes (length s.arena) s.arena head ≡ list class (memory s) = ap (nodes (length s.arena) s.arena) h in
     record {
-      line-is =
+      line_is =
           (λ i. line_with (k i) (nodes (length s.arena) s.arena head))
           ∙ ap (λ (xs : List ℕ). line_with (length xs) xs) ns
           ∙ sym (ap (λ (t : Bool). listed t (list class (memory s))) e);
-      long-is = sym e;
+      long_is = sym e;
     }
   where
     line_with : ℕ → List ℕ → List ℕ

@@ -50,9 +50,9 @@ module _ (order words records : ℕ) (lent : Lent) (arena ledger : List ℕ) (r 
   unfolding after printed
   does-too-many h e =
       record {
-        machine-is = ap (λ (x : Ran). machine x.lent arena ledger) e ∙ sym (ap (λ (t : Bool). cond t (machine lent arena ledger) (after_making words records (made order words records (machine lent arena ledger)) (machine lent arena ledger))) h);
-        line-is = ap (λ (x : Ran). line_of (take x.lent.words arena) x.line) e ∙ sym (ap (λ (t : Bool). cond t bad_line (outcome_text (made order words records (machine lent arena ledger)))) h);
-        long-is = ap (λ (x : Ran). by_node x.line) e;
+        machine_is = ap (λ (x : Ran). machine x.lent arena ledger) e ∙ sym (ap (λ (t : Bool). cond t (machine lent arena ledger) (after_making words records (made order words records (machine lent arena ledger)) (machine lent arena ledger))) h);
+        line_is = ap (λ (x : Ran). line_of (take x.lent.words arena) x.line) e ∙ sym (ap (λ (t : Bool). cond t bad_line (outcome_text (made order words records (machine lent arena ledger)))) h);
+        long_is = ap (λ (x : Ran). by_node x.line) e;
       }
 
   module _
@@ -85,18 +85,18 @@ module _ (order words records : ℕ) (lent : Lent) (arena ledger : List ℕ) (r 
           → Does (Make order words records) (machine lent arena ledger) r arena (ledger' ++ drop records ledger)
       does-refused h e =
           let kept : ledger' ≡ take records ledger =
-          ap (λ (s : State). s.ledger) says.state-is
+          ap (λ (s : State). s.ledger) says.state_is
           ∙ making-keeps order (take words arena) (take records ledger) (λ z. h (number ∙ says.number_is ∙ z)) in
           let heap : reply.heap ≡ (made order words records (machine lent arena ledger)).state.heap =
-          ap (λ (s : State). s.heap) says.state-is ∙ sym (ap (λ (o : Outcome). o.state.heap) same) in
+          ap (λ (s : State). s.heap) says.state_is ∙ sym (ap (λ (o : Outcome). o.state.heap) same) in
           record {
-            machine-is =
+            machine_is =
                 ap (λ (x : Ran). machine x.lent arena (ledger' ++ drop records ledger)) e
                 ∙ ap (λ (l : List ℕ). machine (with_heap reply.heap lent) arena l) (ap (λ (l : List ℕ). l ++ drop records ledger) kept ∙ take-append-drop records ledger)
                 ∙ ap (λ (g : Heap). machine (with_heap g lent) arena ledger) heap
                 ∙ sym (left false (ne_eqb _ 0 (λ z. h (sym its-number ∙ z))));
-            line-is = line arena lent.words lent.records e;
-            long-is = replied-short r reply lent.words lent.records e;
+            line_is = line arena lent.words lent.records e;
+            long_is = replied-short r reply lent.words lent.records e;
           }
 
       pub does-make : n ≡ 0 → r ≡ replied_with reply words records → (cleared : List ℕ) → cleared ≡ replicate (length (take words arena)) 0
@@ -105,15 +105,15 @@ module _ (order words records : ℕ) (lent : Lent) (arena ledger : List ℕ) (r 
           let zeros : cleared ≡ replicate words 0 = z ∙ ap (λ (k : ℕ). replicate k 0) whole in
           let it : state reply.heap cleared ledger' ≡ (made order words records (machine lent arena ledger)).state =
           ap (λ (a : List ℕ). state reply.heap a ledger') zeros
-          ∙ ap (λ (s : State). state s.heap (replicate words 0) s.ledger) says.state-is
+          ∙ ap (λ (s : State). state s.heap (replicate words 0) s.ledger) says.state_is
           ∙ sym (ap (λ (o : Outcome). o.state) same) in
           record {
-            machine-is =
+            machine_is =
                 ap (λ (x : Ran). machine x.lent (cleared ++ drop words arena) (ledger' ++ drop records ledger)) e
                 ∙ ap (λ (s : State). lending words records s (machine lent arena ledger)) it
                 ∙ sym (left true (eq-eqb _ 0 (its-number ∙ h)));
-            line-is = line (cleared ++ drop words arena) words records e;
-            long-is = replied-short r reply words records e;
+            line_is = line (cleared ++ drop words arena) words records e;
+            long_is = replied-short r reply words records e;
           }
 
 -- ---- how many is too many

@@ -26,10 +26,10 @@ nothing_lent = record { heap = fresh_heap 0; words = 0; records = 0 }
 
 -- "over an arena of 4,096 words and a ledger of 512 of its own"
 pub record Fits (lent : Lent) (arena ledger : List ℕ) : Type 0 where
-  pub arena-is : length arena ≡ 4096
-  pub ledger-is : length ledger ≡ 512
-  pub words-fit : lent.words ≤ 4096
-  pub records-fit : lent.records ≤ 512
+  pub arena_is : length arena ≡ 4096
+  pub ledger_is : length ledger ≡ 512
+  pub words_fit : lent.words ≤ 4096
+  pub records_fit : lent.records ≤ 512
 
 -- the heap over the words that are lent
 abbrev pub lent_state : Machine → State

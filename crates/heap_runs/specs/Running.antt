@@ -22,15 +22,15 @@ replied_with r words records = ran_with (record { heap = r.heap; words = words; 
 
 -- what `list` prints of a heap over words that are lent, and what `stats` prints
 pub record Lists (class : ℕ) (s : State) (line : Printed) : Type 0 where
-  pub line-is : line_of s.arena line ≡ listed (is_sound s) (list class (memory s))
-  pub long-is : by_node line ≡ is_sound s
+  pub line_is : line_of s.arena line ≡ listed (is_sound s) (list class (memory s))
+  pub long_is : by_node line ≡ is_sound s
 
 pub record Figured (s : State) (line : Printed) : Type 0 where
-  pub line-is : line_of s.arena line ≡ figured s
-  pub long-is : by_node line ≡ false
+  pub line_is : line_of s.arena line ≡ figured s
+  pub long_is : by_node line ≡ false
 
 -- a command was run: what is held, every word, and the line are the definition's
 pub record Does (command : Command) (before : Machine) (r : Ran) (arena ledger : List ℕ) : Type 0 where
-  pub machine-is : machine r.lent arena ledger ≡ after command before
-  pub line-is : line_of (take r.lent.words arena) r.line ≡ printed command before
-  pub long-is : by_node r.line ≡ is_long command before
+  pub machine_is : machine r.lent arena ledger ≡ after command before
+  pub line_is : line_of (take r.lent.words arena) r.line ≡ printed command before
+  pub long_is : by_node r.line ≡ is_long command before

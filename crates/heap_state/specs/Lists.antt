@@ -61,14 +61,14 @@ split_down (suc n) k m = split_down n k (split (k + n) m)
 -- ---- releasing: "A release pushes the block, then looks for its buddy from the head; both are taken out and the joined block is pushed one class up."
 pub record Released : Type 0 where
   pub memory : Memory
-  pub nodes-compared : ℕ
+  pub nodes_compared : ℕ
 
 -- the block of class k at a is the first of its list, and can go up so many classes; `before` nodes were compared before
 unfoldable pub join_up : ℕ → ℕ → ℕ → ℕ → Memory → Released
-join_up zero k a before m = record { memory = m; nodes-compared = before }
+join_up zero k a before m = record { memory = m; nodes_compared = before }
 join_up (suc above) k a before m = elim (stands (buddy_of k a) (list k m)) [
   | true ↦ join_up above (suc k) (min a (buddy_of k a)) (before + compared (buddy_of k a) (list k m)) (push (suc k) (min a (buddy_of k a)) (pop k (remove k (buddy_of k a) m)))
-  | false ↦ record { memory = m; nodes-compared = before + compared (buddy_of k a) (list k m) }
+  | false ↦ record { memory = m; nodes_compared = before + compared (buddy_of k a) (list k m) }
 ]
 
 unfoldable pub release : ℕ → ℕ → ℕ → Memory → Released

@@ -24,8 +24,8 @@ pub record Outcome : Type 0 where
 -- an answer with its record, and the words afterwards, are those of an outcome
 pub record Says (o : Outcome) (r : Reply) (arena ledger : List ℕ) : Type 0 where
   pub number_is : (paper r.answer).number ≡ o.number
-  pub value-is : (paper r.answer).value ≡ o.value
-  pub state-is : state r.heap arena ledger ≡ o.state
+  pub value_is : (paper r.answer).value ≡ o.value
+  pub state_is : state r.heap arena ledger ≡ o.state
 
 -- ---- lengths and ORDER
 

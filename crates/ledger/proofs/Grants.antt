@@ -27,9 +27,9 @@ pub data Fitting : List Grant → Type 0 where
   none : Fitting []
   next : {k n a : ℕ} {gs : List Grant} → n < 2 ^ 24 → a < 2 ^ 24 → Fitting gs → Fitting (grant k n a ∷ gs)
 
-pub records-fit : {order floor : ℕ} {gs : List Grant} → Records order floor gs → Fitting gs
-records-fit none = none
-records-fit (next l h f r) = next f.fits h (records-fit r)
+pub records_fit : {order floor : ℕ} {gs : List Grant} → Records order floor gs → Fitting gs
+records_fit none = none
+records_fit (next l h f r) = next f.fits h (records_fit r)
 
 -- ---- one record
 

@@ -15,7 +15,7 @@ use Rattle.words.proofs.Tests.{clash}
 use Rattle.ledger.specs.declared.Found.TheVariants.{At}
 use Rattle.ledger.specs.Ledger.{Grant, grant, address, enter, strike, same, some, word_of, grants, ledger_words}
 use Rattle.ledger.specs.Kept.{Kept, search, below, stands_at}
-use Rattle.ledger.proofs.Grants.{Records, none, next, Fine, records-fit}
+use Rattle.ledger.proofs.Grants.{Records, none, next, Fine, records_fit}
 use Rattle.ledger.proofs.Searching.{strike-at, search-within}
 use Rattle.ledger.proofs.Ledgers.{length-grants, place-le, kept-records, grants-words, words-kept, replaced}
 
@@ -94,7 +94,7 @@ module _ (order count : ℕ) (t : List ℕ) (kept : Kept order count t) where
     pub grants-enter : grants (count + 1) (ledger_words (length t) (enter (grant k n a) (grants count t))) ≡ enter (grant k n a) (grants count t)
     grants-enter =
         ap (λ (c : ℕ). grants c (ledger_words (length t) (enter (grant k n a) (grants count t)))) (sym count-enter)
-        ∙ grants-words (length t) (enter (grant k n a) (grants count t)) (omega (arith, count-enter)) (records-fit all-enter)
+        ∙ grants-words (length t) (enter (grant k n a) (grants count t)) (omega (arith, count-enter)) (records_fit all-enter)
 
   module _ (k n a i : ℕ) (there : search (same k n a) (grants count t) ≡ At i) where
     count-strike : length (strike (same k n a) (grants count t)) ≡ count - 1
@@ -111,7 +111,7 @@ module _ (order count : ℕ) (t : List ℕ) (kept : Kept order count t) where
     pub grants-strike : grants (count - 1) (ledger_words (length t) (strike (same k n a) (grants count t))) ≡ strike (same k n a) (grants count t)
     grants-strike =
         ap (λ (c : ℕ). grants c (ledger_words (length t) (strike (same k n a) (grants count t)))) (sym count-strike)
-        ∙ grants-words (length t) (strike (same k n a) (grants count t)) (omega (arith, count-strike, kept.room)) (records-fit all-strike)
+        ∙ grants-words (length t) (strike (same k n a) (grants count t)) (omega (arith, count-strike, kept.room)) (records_fit all-strike)
 
   -- ---- the words, as the functions of src/records.rt leave them
 

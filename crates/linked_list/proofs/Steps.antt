@@ -35,8 +35,8 @@ nodes-step most left arena (suc a) e q = rw e
 -- ---- a removal, told by the case of its place
 
 pub remove-head : (head : ℕ) (arena : List ℕ) (previous : Previous) (node after : ℕ) → previous ≡ Head → after ≡ next arena node → Left (removed head arena previous node) after arena
-remove-head head arena previous node after e f = rw e (record { head-is = f; words_are = refl })
+remove-head head arena previous node after e f = rw e (record { head_is = f; words_are = refl })
 
 pub remove-word : (head : ℕ) (arena words : List ℕ) (previous : Previous) (before node after : ℕ) → previous ≡ Word before → after ≡ next arena node → words ≡ linked arena before after →
     Left (removed head arena previous node) head words
-remove-word head arena words previous before node after e f g = rw e (record { head-is = refl; words_are = g ∙ ap (linked arena before) f })
+remove-word head arena words previous before node after e f g = rw e (record { head_is = refl; words_are = g ∙ ap (linked arena before) f })

@@ -31,7 +31,7 @@ pub record Links : Type 0 where
   pub words : List ℕ
 
 pub record Left (links : Links) (head : ℕ) (words : List ℕ) : Type 0 where
-  pub head-is : head ≡ links.head
+  pub head_is : head ≡ links.head
   pub words_are : words ≡ links.words
 
 -- "last in, first out": the item is the new head, and the old head is its link

@@ -117,7 +117,7 @@ cutting (suc t) top s n e bs q r h sound clear = go (dec_lt 0 n) (λ d r f l c. 
         → Cuts top s e bs (insert_all (cut_from (suc t) top s n) bs)
     go (yes p) ih =
         let w = piece-fits r p in
-        cut-turn t bs q r p clear (ih (piece_size top s n) (rest-range r p) (omega (arith, w.within)) (omega (arith, w.never-0)) (λ x m d. clear x m (omega arith)))
+        cut-turn t bs q r p clear (ih (piece_size top s n) (rest-range r p) (omega (arith, w.within)) (omega (arith, w.never_0)) (λ x m d. clear x m (omega arith)))
     go (no p) ih = let z : n ≡ 0 = omega arith in rw (z, cut_from) (nothing-cut s e bs (omega arith) sound)
 
 -- the pieces are free, every other frame and grant stays; nothing is left to join where nothing was and the range touches no managed frame

@@ -27,7 +27,7 @@ turns_same (suc t) (suc u) top s (suc n) r h g =
     let z : eqb (suc n) 0 ≡ false = ne_eqb (suc n) 0 (λ e. omega arith) in
     rw (z, cut_from)
     (ap (λ (l : List Block). blk false (size_class p) s ∷ l)
-    (turns_same t u top (s + p) (suc n - p) (rest-range r (omega arith)) (omega (arith, w.never-0)) (omega (arith, w.never-0))))
+    (turns_same t u top (s + p) (suc n - p) (rest-range r (omega arith)) (omega (arith, w.never_0)) (omega (arith, w.never_0))))
 
 -- the pieces of n frames from s on, with as many turns as there are frames
 abbrev pub pieces_of : ℕ → ℕ → ℕ → List Block
@@ -47,7 +47,7 @@ cut_step top s (suc n) r h =
     let z : eqb (suc n) 0 ≡ false = ne_eqb (suc n) 0 (λ e. omega arith) in
     rw (z, cut_from)
     (ap (λ (l : List Block). blk false (size_class p) s ∷ l)
-    (turns_same n (suc n - p) top (s + p) (suc n - p) (rest-range r h) (omega (arith, w.never-0)) (omega arith)))
+    (turns_same n (suc n - p) top (s + p) (suc n - p) (rest-range r h) (omega (arith, w.never_0)) (omega arith)))
 
 -- ---- the pieces in their place
 
@@ -84,7 +84,7 @@ insert-pieces (suc t) top s (suc n) xs ys r b a =
     let l : List Block = cut_from t top (s + p) (suc n - p) in
     rw (z, cut_from)
     (ap (insert (blk false (size_class p) s)) (insert-pieces t top (s + p) (suc n - p) xs ys q (below-le g b) (above-le f a))
-    ∙ insert-at xs false (size_class p) s (l ++ ys) b (above-append (cut-above t top (s + p) (suc n - p) q) (above-le k a)) (omega (arith, w.never-0)))
+    ∙ insert-at xs false (size_class p) s (l ++ ys) b (above-append (cut-above t top (s + p) (suc n - p) q) (above-le k a)) (omega (arith, w.never_0)))
 
 pub added-at : (top s e : ℕ) (xs ys : List Block) → s ≤ e → e ≤ 2 ^ 32 → top ≤ 32 → Below s xs → Above e ys
     → added top s e (xs ++ ys) ≡ xs ++ (pieces_of top s (e - s) ++ ys)

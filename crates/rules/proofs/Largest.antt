@@ -50,7 +50,7 @@ module _ (top : ℕ) (B : ℕ → ℕ → Type 0) (tidy : Tidy top B) where
         small = tidy.small b;
         aligned = tidy.aligned b;
         whole = covered-self b;
-        no-larger = λ j u l a h g c. none (in_one n j u l a c) h g;
+        no_larger = λ j u l a h g c. none (in_one n j u l a c) h g;
       }
         where
           none : {j u : ℕ} → Held B j u → Holds j u k s → k < j → ⊥
@@ -64,7 +64,7 @@ module _ (top : ℕ) (B : ℕ → ℕ → Type 0) (tidy : Tidy top B) where
             where
               go : (k ≡ f.class) ⊎ (k < f.class) → B k s
               go (inl e) = held_same f e
-              go (inr l) = absurd (m.no-larger f.class f.start (tidy.small f.member) (tidy.aligned f.member) f.holds l (covered-self f.member))
+              go (inr l) = absurd (m.no_larger f.class f.start (tidy.small f.member) (tidy.aligned f.member) f.holds l (covered-self f.member))
 
 -- ---- fewer blocks, and one block more
 

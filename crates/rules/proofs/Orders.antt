@@ -8,7 +8,7 @@ use mathlib.Core.List.{List, [], ◌∷◌}
 use Prim.Native.Nat.{ℕ, ◌≤◌}
 use Rattle.rules.specs.Largest.{Joined}
 use Rattle.rules.specs.Rules.{Block, blk, granted, Sound, is_granted, released}
-use Rattle.rules.specs.Managed.{◌∈◌, Free, Granted, Is, Managed, Kept, Leaves, Releases, no_more, and_then, Distinct, and-once}
+use Rattle.rules.specs.Managed.{◌∈◌, Free, Granted, Is, Managed, Kept, Leaves, Releases, no_more, and_then, Distinct, and_once}
 use Rattle.rules.proofs.Members.{is_block, same_block}
 use Rattle.rules.proofs.Putting.{leaves-as, leaves_kept, knows-granted, known}
 use Rattle.rules.proofs.Freed.{released-leaves}
@@ -53,7 +53,7 @@ module _ {top : ℕ} (order : top ≤ 32) where
   pub all-accepted : (gs bs : List Block) → Sound top 0 bs → Distinct gs → AllGranted gs bs → (after : List Block) × Releases top gs bs after
   all-accepted [] bs r d were = (bs, no_more)
   all-accepted (blk false k s ∷ gs) bs r d were = absurd (true≢false (sym (were (blk false k s) (Memᴰ.head refl)).1))
-  all-accepted (blk true k s ∷ gs) bs r (and-once n d) were =
+  all-accepted (blk true k s ∷ gs) bs r (and_once n d) were =
       let e = (known (is_granted k s) (knows-granted k s)).1 (were (blk true k s) (Memᴰ.head refl)).0 in
       let v = released-leaves order k s bs r e in
       let w = all-accepted gs (released top k s bs) v.sound d (λ b m. still v b m (were b (Memᴰ.tail m))) in

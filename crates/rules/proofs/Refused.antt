@@ -76,8 +76,8 @@ module _ {top : ℕ} (bs : List Block) (w : Kept top bs) where
     where
       go : ((x : ℕ) → Within run (run + n) x → Spare bs x) ⊎ Lacks bs run (run + n) → Spare bs (run + n) ⊎ (Spare bs (run + n) → ⊥)
           → ((x : ℕ) → Within run (run + suc n) x → Spare bs x) ⊎ Lacks bs run (run + suc n)
-      go (inr k) y = inr (record { frame = k.frame; within = omega arith; not-spare = k.not-spare })
-      go (inl f) (inr g) = inr (record { frame = run + n; within = omega arith; not-spare = g })
+      go (inr k) y = inr (record { frame = k.frame; within = omega arith; not_spare = k.not_spare })
+      go (inl f) (inr g) = inr (record { frame = run + n; within = omega arith; not_spare = g })
       go (inl f) (inl g) = inl (λ x d. side x d (dec_lt x (run + n)))
         where
           side : (x : ℕ) → Within run (run + suc n) x → Dec (x < run + n) → Spare bs x
@@ -93,5 +93,5 @@ module _ {top : ℕ} (bs : List Block) (w : Kept top bs) where
       search e (inr k) = k
 
       go : (f : Found) → containing c run bs ≡ f → Lacks bs run (run + 2 ^ c) → containing c run bs ≡ Nowhere
-      go (At i) e k = absurd (k.not-spare (held-spare (offered (containing-offers c run i bs a e)) k.frame (omega (arith, k.within))))
+      go (At i) e k = absurd (k.not_spare (held-spare (offered (containing-offers c run i bs a e)) k.frame (omega (arith, k.within))))
       go Nowhere e k = e

@@ -25,7 +25,7 @@ unfolding count_trailing_zeros size_of size_class largest_power prev_power_of_tw
 not-joined = refl
 
 both-spare : (x : ℕ) → x < 2 → Spare touching x
-both-spare x h = rw not-joined (record { managed = one (dec_lt x 1); not-granted = λ g. free (Memᴰ.cases_cons g.member) })
+both-spare x h = rw not-joined (record { managed = one (dec_lt x 1); not_granted = λ g. free (Memᴰ.cases_cons g.member) })
   where
     one : Dec (x < 1) → Managed (blk false 0 0 ∷ blk false 0 1 ∷ []) x
     one (yes l) = let c : Covers 0 0 x = omega arith in managed-by (Memᴰ.head refl) c
@@ -37,7 +37,7 @@ both-spare x h = rw not-joined (record { managed = one (dec_lt x 1); not-granted
 
 -- the block of class 1 at 0 is wholly spare, so that the free block of class 0 there is no largest one
 pub not-largest : Free touching 0 0 × (Largest 32 (Spare touching) 0 0 → ⊥)
-not-largest = (rw not-joined (Memᴰ.head refl), λ w. w.no-larger 1 0 (omega arith) pair (omega arith) (omega arith) (λ x c. both-spare x (omega arith)))
+not-largest = (rw not-joined (Memᴰ.head refl), λ w. w.no_larger 1 0 (omega arith) pair (omega arith) (omega arith) (λ x c. both-spare x (omega arith)))
   where
     pair : Aligned 1 0
     pair = record { multiple = refl }

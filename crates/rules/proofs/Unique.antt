@@ -16,7 +16,7 @@ use Rattle.rules.proofs.Putting.{managed-by}
 -- ---- the spare frames are those of the free blocks
 
 pub spare-is : {top : ℕ} {bs : List Block} (x : ℕ) → Sound top 0 bs → Spare bs x ↔ Covered (Free bs) x
-spare-is {top} {bs} x r = (λ l. pick l.managed.granted l.managed.class l.managed.start l.managed.member l.managed.covers l.not-granted, from)
+spare-is {top} {bs} x r = (λ l. pick l.managed.granted l.managed.class l.managed.start l.managed.member l.managed.covers l.not_granted, from)
   where
     pick : (g : Bool) (k s : ℕ) → blk g k s ∈ bs → Covers k s x → (Covered (Granted bs) x → ⊥) → Covered (Free bs) x
     pick false k s m c n = record { class = k; start = s; member = m; covers = c }
@@ -25,7 +25,7 @@ spare-is {top} {bs} x r = (λ l. pick l.managed.granted l.managed.class l.manage
     from : Covered (Free bs) x → Spare bs x
     from f = record {
       managed = managed-by f.member f.covers;
-      not-granted = λ g. marks-differ (members-apart r g.member f.member (meets_at g.covers f.covers));
+      not_granted = λ g. marks-differ (members-apart r g.member f.member (meets_at g.covers f.covers));
     }
 
 -- ---- largest blocks of the same frames
@@ -35,7 +35,7 @@ largest-same f w = record {
   small = w.small;
   aligned = w.aligned;
   whole = λ x c. (f x).0 (w.whole x c);
-  no-larger = λ j t l a h g all. w.no-larger j t l a h g (λ x c. (f x).1 (all x c));
+  no_larger = λ j t l a h g all. w.no_larger j t l a h g (λ x c. (f x).1 (all x c));
 }
 
 -- "The free blocks are exactly the largest aligned blocks, up to the top size, of frames added and not granted."
@@ -54,7 +54,7 @@ same-comm e = record { frames = λ x. ((e.frames x).1, (e.frames x).0); granted 
 spare-same : {bs cs : List Block} (x : ℕ) → Same bs cs → Spare bs x → Spare cs x
 spare-same x e l = record {
   managed = (e.frames x).0 l.managed;
-  not-granted = λ g. l.not-granted (record { class = g.class; start = g.start; member = (e.granted g.class g.start).1 g.member; covers = g.covers });
+  not_granted = λ g. l.not_granted (record { class = g.class; start = g.start; member = (e.granted g.class g.start).1 g.member; covers = g.covers });
 }
 
 same_blocks : {top : ℕ} {bs cs : List Block} → Kept top bs → Kept top cs → Same bs cs → (b : Block) → b ∈ bs → b ∈ cs

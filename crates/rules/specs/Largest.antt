@@ -19,7 +19,7 @@ pub record Largest (top : ℕ) (F : ℕ → Type 0) (k s : ℕ) : Type 0 where
   pub small : k ≤ top
   pub aligned : Aligned k s
   pub whole : Whole F k s
-  pub no-larger : (j t : ℕ) → j ≤ top → Aligned j t → Holds j t k s → k < j → Whole F j t → ⊥
+  pub no_larger : (j t : ℕ) → j ≤ top → Aligned j t → Holds j t k s → k < j → Whole F j t → ⊥
 
 -- the blocks of B are aligned, of classes up to top, and no two have a frame in common
 pub record Tidy (top : ℕ) (B : ℕ → ℕ → Type 0) : Type 0 where

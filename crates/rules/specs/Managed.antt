@@ -37,13 +37,13 @@ pub record Within (s e x : ℕ) : Type 0 where
 -- "frames added and not granted": these are the frames of the free blocks
 pub record Spare (bs : List Block) (x : ℕ) : Type 0 where
   pub managed : Managed bs x
-  pub not-granted : Covered (Granted bs) x → ⊥
+  pub not_granted : Covered (Granted bs) x → ⊥
 
 -- "a frame of that run is not free", where the run is [s, e)
 pub record Lacks (bs : List Block) (s e : ℕ) : Type 0 where
   pub frame : ℕ
   pub within : Within s e frame
-  pub not-spare : Spare bs frame → ⊥
+  pub not_spare : Spare bs frame → ⊥
 
 -- a managed frame lies in [s, e), or next to it
 pub record Touches (s e : ℕ) (bs : List Block) : Type 0 where
@@ -91,5 +91,5 @@ pub data Releases (top : ℕ) : List Block → List Block → List Block → Typ
 
 -- no block stands in the list twice
 pub data Distinct : List Block → Type 0 where
-  none-twice : Distinct []
-  and-once : {b : Block} {bs : List Block} → (b ∈ bs → ⊥) → Distinct bs → Distinct (b ∷ bs)
+  none_twice : Distinct []
+  and_once : {b : Block} {bs : List Block} → (b ∈ bs → ⊥) → Distinct bs → Distinct (b ∷ bs)

@@ -22,7 +22,7 @@ unfolding outcome decide
 summed ws sound fits g m l t =
     rw (sound, outcome)
     (record {
-      reply = rw (t.granted-are, t.managed-are, t.largest-is);
+      reply = rw (t.granted_are, t.managed_are, t.largest_is);
       words = table_is ws sound fits;
     })
 

@@ -22,7 +22,7 @@ pub loop-left-smaller : goal.loop-left-smaller
 loop-left-smaller c =
     let l = c.loop-left in
     let w = next-piece l.invariant.0 c.loop-left-test.true c.piece-size.ensures in
-    omega (arith, w.within, w.never-0)
+    omega (arith, w.within, w.never_0)
 
 pub loop-left-preserved : goal.loop-left-preserved
 loop-left-preserved c =

@@ -18,22 +18,22 @@ returns g c =
     let r = c.run-ran in
     let d = r.ensures.does in
     let p = c.put_printed in
-    let ran = d.machine-is ∙ ap (λ (m : Command). after m (machine a.lent a.arena.now a.ledger.now)) command in record {
+    let ran = d.machine_is ∙ ap (λ (m : Command). after m (machine a.lent a.arena.now a.ledger.now)) command in record {
       out_in_bounds = c.in_ok-end.ensures.upper_bound;
       fits_2 = r.ensures.fits;
       ledger_after = ran;
       arena_words = ap (λ (m : Machine). m.arena) ran;
       ledger_words = ap (λ (m : Machine). m.ledger) ran;
       shown_short = λ h.
-          let short : by_node r.result.line ≡ false = d.long-is ∙ ap (λ (m : Command). is_long m (machine a.lent a.arena.now a.ledger.now)) command ∙ h in
+          let short : by_node r.result.line ≡ false = d.long_is ∙ ap (λ (m : Command). is_long m (machine a.lent a.arena.now a.ledger.now)) command ∙ h in
           shown (take r.result.lent.words r.new.arena) r.result.line (printed (command_of (take a.len a.held.now)) (machine a.lent a.arena.now a.ledger.now)) a.out.now p.new.out c.in_ok-free.free c.in_ok-end.end short
-          (d.line-is ∙ ap (λ (m : Command). printed m (machine a.lent a.arena.now a.ledger.now)) command) (omega (arith, c.in_ok-free.ensures)) (c.in_ok-end.ensures.put short);
+          (d.line_is ∙ ap (λ (m : Command). printed m (machine a.lent a.arena.now a.ledger.now)) command) (omega (arith, c.in_ok-free.ensures)) (c.in_ok-end.ensures.put short);
     }
 
 pub returns-in_err-free : goal.returns-in_err-free
 returns-in_err-free g c =
     let a = c.args in
-    let ran = c.run-ran.ensures.does.machine-is ∙ ap (λ (m : Command). after m (machine a.lent a.arena.now a.ledger.now)) c.command_of.ensures in record {
+    let ran = c.run-ran.ensures.does.machine_is ∙ ap (λ (m : Command). after m (machine a.lent a.arena.now a.ledger.now)) c.command_of.ensures in record {
       out_in_bounds = search rules;
       fits_2 = search rules;
       ledger_after = search rules;
@@ -45,7 +45,7 @@ returns-in_err-free g c =
 pub returns-in_err-end : goal.returns-in_err-end
 returns-in_err-end g c =
     let a = c.args in
-    let ran = c.run-ran.ensures.does.machine-is ∙ ap (λ (m : Command). after m (machine a.lent a.arena.now a.ledger.now)) c.command_of.ensures in record {
+    let ran = c.run-ran.ensures.does.machine_is ∙ ap (λ (m : Command). after m (machine a.lent a.arena.now a.ledger.now)) c.command_of.ensures in record {
       out_in_bounds = search rules;
       fits_2 = search rules;
       ledger_after = search rules;

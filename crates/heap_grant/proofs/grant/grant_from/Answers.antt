@@ -33,7 +33,7 @@ pub overflow_add-g-3 : goal.overflow_add-g-3
 overflow_add-g-3 c =
     let a = c.args in
     let st = state a.h a.arena.now a.ledger.now in
-    omega (arith, (fits st a.from a.class a.size c.requires (search rules)).allocated-fits, c.size_of.ensures, size_is a.class (omega (arith, c.requires.suffices, c.requires.is-class)))
+    omega (arith, (fits st a.from a.class a.size c.requires (search rules)).allocated-fits, c.size_of.ensures, size_is a.class (omega (arith, c.requires.suffices, c.requires.is_class)))
 
 pub returns : goal.returns
 returns c =

@@ -12,8 +12,8 @@ pub returns-then-head-eq0 : goal.returns-then-head-eq0
 returns-then-head-eq0 c =
     let a = c.args in
     record {
-      ok-is = sym (class-empty a.order a.class a.arena.now a.head c.if-head-eq0.true);
-      bytes-are = λ e. sym (ap bytes_of (blocks_end a.class (length a.arena.now) a.arena.now a.head c.if-head-eq0.true));
+      ok_is = sym (class-empty a.order a.class a.arena.now a.head c.if-head-eq0.true);
+      bytes_are = λ e. sym (ap bytes_of (blocks_end a.class (length a.arena.now) a.arena.now a.head c.if-head-eq0.true));
     }
 
 pub returns-then-class-lt3 : goal.returns-then-class-lt3

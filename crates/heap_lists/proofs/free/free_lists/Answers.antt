@@ -14,7 +14,7 @@ pub returns-then-not-list : goal.returns-then-not-list
 returns-then-not-list c =
     let l = c.loop-class in
     let a = c.args in
-    let bad = sym c.class_list-list.ensures.ok-is ∙ not-true _ c.if-not-list.true in
+    let bad = sym c.class_list-list.ensures.ok_is ∙ not-true _ c.if-not-list.true in
     let step = free_step a.order a.heads.now a.arena.now l.class (omega arith) c.requires.0 (omega arith) in
     wrong-is c.wrong.ensures (sym l.invariant.0 ∙ step ∙ rw bad)
 
@@ -22,7 +22,7 @@ pub overflow_add-bytes : goal.overflow_add-bytes
 overflow_add-bytes c =
     let l = c.loop-class in
     let a = c.args in
-    let good = c.class_list-list.ensures.bytes-are (not-false _ c.if-not-list.false) in
+    let good = c.class_list-list.ensures.bytes_are (not-false _ c.if-not-list.false) in
     omega (arith, good, sum_step a.order a.heads.now a.arena.now l.class (omega arith), sum-small a.order a.heads.now a.arena.now (omega arith))
 
 pub loop-class-preserved : goal.loop-class-preserved
@@ -30,10 +30,10 @@ loop-class-preserved c =
     let l = c.loop-class in
     let a = c.args in
     let ok = not-false _ c.if-not-list.false in
-    let good = sym c.class_list-list.ensures.ok-is ∙ ok in
+    let good = sym c.class_list-list.ensures.ok_is ∙ ok in
     let step = free_step a.order a.heads.now a.arena.now l.class (omega arith) c.requires.0 (omega arith) in (
       rw good at (sym step) ∙ l.invariant.0,
-      omega (arith, c.class_list-list.ensures.bytes-are ok, sum_step a.order a.heads.now a.arena.now l.class (omega arith)),
+      omega (arith, c.class_list-list.ensures.bytes_are ok, sum_step a.order a.heads.now a.arena.now l.class (omega arith)),
     )
 
 pub returns : goal.returns
@@ -41,6 +41,6 @@ returns c =
     let l = c.loop-class in
     let a = c.args in
     record {
-      ok-is = sym (free-end a.order a.heads.now a.arena.now l.class (omega arith) c.requires.0) ∙ l.invariant.0;
-      bytes-are = λ e. omega (arith, sum-end a.order a.heads.now a.arena.now l.class (omega arith));
+      ok_is = sym (free-end a.order a.heads.now a.arena.now l.class (omega arith) c.requires.0) ∙ l.invariant.0;
+      bytes_are = λ e. omega (arith, sum-end a.order a.heads.now a.arena.now l.class (omega arith));
     }

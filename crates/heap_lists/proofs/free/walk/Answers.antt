@@ -67,6 +67,6 @@ returns c =
     let l = c.loop-node in
     let a = c.args in
     record {
-      ok-is = sym (list-end (length a.arena.now * 8) a.class l.left a.arena.now l.node c.loop-node-test.false) ∙ l.invariant.0;
-      bytes-are = λ e. omega (arith, ap bytes_of (blocks_end a.class (suc l.left) a.arena.now l.node c.loop-node-test.false));
+      ok_is = sym (list-end (length a.arena.now * 8) a.class l.left a.arena.now l.node c.loop-node-test.false) ∙ l.invariant.0;
+      bytes_are = λ e. omega (arith, ap bytes_of (blocks_end a.class (suc l.left) a.arena.now l.node c.loop-node-test.false));
     }

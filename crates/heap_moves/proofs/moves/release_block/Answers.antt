@@ -12,7 +12,7 @@ loop-k-init c = (joins-start _ _ _ _ c.requires.0, refl)
 pub overflow_add-compared : goal.overflow_add-compared
 overflow_add-compared c =
     let l = c.loop-k in
-    omega (arith, looked-few c.args.top l.k l.low l.compared (mem l.heads l.arena) _ _ c.find-search.result (c.buddy-buddy.ensures, refl, c.find-search.ensures), l.invariant.0.few, l.invariant.0.is-class, l.invariant.1, c.push.auto.arena, c.requires.2)
+    omega (arith, looked-few c.args.top l.k l.low l.compared (mem l.heads l.arena) _ _ c.find-search.result (c.buddy-buddy.ensures, refl, c.find-search.ensures), l.invariant.0.few, l.invariant.0.is_class, l.invariant.1, c.push.auto.arena, c.requires.2)
 
 pub returns-then-not-search : goal.returns-then-not-search
 returns-then-not-search c =
@@ -33,7 +33,7 @@ loop-k-preserved c =
         rest = join-hit c.args.top l.k l.low l.compared (mem l.heads l.arena) _ _ c.find-search.result _ _ _ _ more (asked, refl, c.find-search.ensures) (not-false _ c.if-not-search.false) c.take_out.ensures c.drop_first.ensures c.least-low.ensures c.push-in-loop-k.ensures ∙ l.invariant.0.rest;
         few = omega (arith, looked-few c.args.top l.k l.low l.compared (mem l.heads l.arena) _ _ c.find-search.result (asked, refl, c.find-search.ensures), l.invariant.0.few, l.invariant.0.low-class, l.invariant.1, c.push.auto.arena, c.requires.2);
         low-class = omega (arith, l.invariant.0.low-class);
-        is-class = omega (arith, more, c.requires.1);
+        is_class = omega (arith, more, c.requires.1);
       },
       c.push-in-loop-k.auto.arena ∙ c.take_out.auto.arena ∙ l.invariant.1,
     )

@@ -18,9 +18,9 @@ returns-then-not-record_ok c =
     let a = c.args in
     let bad = sym c.record_ok.ensures ∙ c.if-not-record_ok.true in
     record {
-      ok-is = sym (granted-step a.order a.bytes a.ledger.now a.count c.requires.1 c.loop-i.floor c.loop-i.i (omega arith) ∙ rw bad) ∙ c.loop-i.invariant.0;
-      user-is = λ e. absurd (false≢true e);
-      allocated-is = λ e. absurd (false≢true e);
+      ok_is = sym (granted-step a.order a.bytes a.ledger.now a.count c.requires.1 c.loop-i.floor c.loop-i.i (omega arith) ∙ rw bad) ∙ c.loop-i.invariant.0;
+      user_is = λ e. absurd (false≢true e);
+      allocated_is = λ e. absurd (false≢true e);
     }
 
 pub overflow_shl-size : goal.overflow_shl-size
@@ -66,7 +66,7 @@ pub returns : goal.returns
 returns c =
     let a = c.args in
     record {
-      ok-is = sym (granted-end a.order a.bytes a.ledger.now a.count c.requires.1 c.loop-i.floor c.loop-i.i (omega arith)) ∙ c.loop-i.invariant.0;
-      user-is = λ e. omega (arith, user-end a.order a.bytes a.ledger.now a.count c.requires.1 c.loop-i.i (omega arith));
-      allocated-is = λ e. omega (arith, allocated-end a.order a.bytes a.ledger.now a.count c.requires.1 c.loop-i.i (omega arith));
+      ok_is = sym (granted-end a.order a.bytes a.ledger.now a.count c.requires.1 c.loop-i.floor c.loop-i.i (omega arith)) ∙ c.loop-i.invariant.0;
+      user_is = λ e. omega (arith, user-end a.order a.bytes a.ledger.now a.count c.requires.1 c.loop-i.i (omega arith));
+      allocated_is = λ e. omega (arith, allocated-end a.order a.bytes a.ledger.now a.count c.requires.1 c.loop-i.i (omega arith));
     }

@@ -8,4 +8,4 @@ returns c =
     let u = c.stats_alloc_user-user.ensures in
     let g = c.stats_alloc_actual-allocated.ensures in
     let t = c.stats_total_bytes-total.ensures in
-    record { line-is = λ i. figures_text (u.number_is i) (u.value-is i) (g.value-is i) (t.value-is i); long-is = refl }
+    record { line_is = λ i. figures_text (u.number_is i) (u.value_is i) (g.value_is i) (t.value_is i); long_is = refl }

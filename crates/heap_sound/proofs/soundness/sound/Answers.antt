@@ -29,7 +29,7 @@ returns-then-not-free c =
     let h = c.args.h in
     let m = c.args.arena.now in
     let w = c.args.ledger.now in
-    sym (no _ (λ e. let t = tested h m w (sound-fact h m w e) in clash t.0.free (sym c.free_lists-free.ensures.ok-is ∙ not-true _ c.if-not-free.true)))
+    sym (no _ (λ e. let t = tested h m w (sound-fact h m w e) in clash t.0.free (sym c.free_lists-free.ensures.ok_is ∙ not-true _ c.if-not-free.true)))
 
 pub records-granted-requires : goal.records-granted-requires
 records-granted-requires c =
@@ -44,7 +44,7 @@ returns-then-not-granted c =
     let h = c.args.h in
     let m = c.args.arena.now in
     let w = c.args.ledger.now in
-    sym (no _ (λ e. let t = tested h m w (sound-fact h m w e) in clash t.0.granted (sym c.records-granted.ensures.ok-is ∙ not-true _ c.if-not-granted.true)))
+    sym (no _ (λ e. let t = tested h m w (sound-fact h m w e) in clash t.0.granted (sym c.records-granted.ensures.ok_is ∙ not-true _ c.if-not-granted.true)))
 
 pub returns-then-not-zeros_from : goal.returns-then-not-zeros_from
 returns-then-not-zeros_from c =
@@ -58,14 +58,14 @@ returns-then-h-granted c =
     let h = c.args.h in
     let m = c.args.arena.now in
     let w = c.args.ledger.now in
-    sym (no _ (λ e. let t = tested h m w (sound-fact h m w e) in c.if-h-granted.true (t.0.user ∙ sym (c.records-granted.ensures.user-is (not-false _ c.if-not-granted.false)))))
+    sym (no _ (λ e. let t = tested h m w (sound-fact h m w e) in c.if-h-granted.true (t.0.user ∙ sym (c.records-granted.ensures.user_is (not-false _ c.if-not-granted.false)))))
 
 pub returns-then-h-granted-2 : goal.returns-then-h-granted-2
 returns-then-h-granted-2 c =
     let h = c.args.h in
     let m = c.args.arena.now in
     let w = c.args.ledger.now in
-    sym (no _ (λ e. let t = tested h m w (sound-fact h m w e) in c.if-h-granted-2.true (t.0.allocated ∙ sym (c.records-granted.ensures.allocated-is (not-false _ c.if-not-granted.false)))))
+    sym (no _ (λ e. let t = tested h m w (sound-fact h m w e) in c.if-h-granted-2.true (t.0.allocated ∙ sym (c.records-granted.ensures.allocated_is (not-false _ c.if-not-granted.false)))))
 
 pub overflow_add-granted : goal.overflow_add-granted
 overflow_add-granted c =
@@ -73,7 +73,7 @@ overflow_add-granted c =
     let m = c.args.arena.now in
     let w = c.args.ledger.now in
     let q = ranges-of h m w (sym c.ranges_ok.ensures ∙ c.if-not-ranges_ok.false) in
-    omega (arith, c.records-granted.ensures.allocated-is (not-false _ c.if-not-granted.false), c.free_lists-free.ensures.bytes-are (not-false _ c.if-not-free.false), total-fits h m w q (sym c.records-granted.ensures.ok-is ∙ not-false _ c.if-not-granted.false))
+    omega (arith, c.records-granted.ensures.allocated_is (not-false _ c.if-not-granted.false), c.free_lists-free.ensures.bytes_are (not-false _ c.if-not-free.false), total-fits h m w q (sym c.records-granted.ensures.ok_is ∙ not-false _ c.if-not-granted.false))
 
 pub returns-then-h-granted-3 : goal.returns-then-h-granted-3
 returns-then-h-granted-3 c =
@@ -84,7 +84,7 @@ returns-then-h-granted-3 c =
     (no _
     (λ e.
     let t = tested h m w (sound-fact h m w e) in
-    c.if-h-granted-3.true (omega (arith, t.0.total, c.records-granted.ensures.allocated-is (not-false _ c.if-not-granted.false), c.free_lists-free.ensures.bytes-are (not-false _ c.if-not-free.false)))))
+    c.if-h-granted-3.true (omega (arith, t.0.total, c.records-granted.ensures.allocated_is (not-false _ c.if-not-granted.false), c.free_lists-free.ensures.bytes_are (not-false _ c.if-not-free.false)))))
 
 pub free_apart-requires : goal.free_apart-requires
 free_apart-requires c =
@@ -98,15 +98,15 @@ returns c =
     let h = c.args.h in
     let m = c.args.arena.now in
     let w = c.args.ledger.now in
-    let user = c.records-granted.ensures.user-is (not-false _ c.if-not-granted.false) in
-    let allocated = c.records-granted.ensures.allocated-is (not-false _ c.if-not-granted.false) in
-    let bytes = c.free_lists-free.ensures.bytes-are (not-false _ c.if-not-free.false) in
+    let user = c.records-granted.ensures.user_is (not-false _ c.if-not-granted.false) in
+    let allocated = c.records-granted.ensures.allocated_is (not-false _ c.if-not-granted.false) in
+    let bytes = c.free_lists-free.ensures.bytes_are (not-false _ c.if-not-free.false) in
     c.free_apart.ensures
     ∙ sound-cross h m w
     (record {
       ranges = sym c.ranges_ok.ensures ∙ c.if-not-ranges_ok.false;
-      free = sym c.free_lists-free.ensures.ok-is ∙ not-false _ c.if-not-free.false;
-      granted = sym c.records-granted.ensures.ok-is ∙ not-false _ c.if-not-granted.false;
+      free = sym c.free_lists-free.ensures.ok_is ∙ not-false _ c.if-not-free.false;
+      granted = sym c.records-granted.ensures.ok_is ∙ not-false _ c.if-not-granted.false;
       zeros = sym c.zeros_from.ensures ∙ c.if-not-zeros_from.false;
       user = c.if-h-granted.false ∙ user;
       allocated = c.if-h-granted-2.false ∙ allocated;
