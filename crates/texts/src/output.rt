@@ -7,6 +7,7 @@ use std::io;
 const LONGEST: usize = 160;
 
 // Writes the output that waits where a piece might have no room behind it, and answers the place for the next piece.
+// An error is the stream's, and nothing that was lent is written.
 pub fn room(rt: &impl Print, out: &[u8], at: usize) -> io::Result<usize>
     requires at_in_bounds { at ≤ length out.now }
     requires in_bounds { 160 ≤ length out.now }
