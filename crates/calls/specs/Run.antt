@@ -65,5 +65,9 @@ line_after l ws = words_after (command_of l) ws
 abbrev pub Took : List ℕ → List ℕ → ℕ → List ℕ → List ℕ → ℕ → List ℕ → Type 0
 Took = running.Took line_after
 
+-- and of a chunk of which the output failed
+abbrev pub Stopped : List ℕ → List ℕ → ℕ → List ℕ → List ℕ → Type 0
+Stopped = running.Stopped line_after
+
 abbrev pub Ended : List ℕ → ℕ → List ℕ → List ℕ → Type 0
 Ended = running.Ended line_after

@@ -2,10 +2,10 @@
 
 #![tactic(auto)]
 
-ghost use Rattle.std.specs.Prelude.{◌≡◌, ◌≤◌, ◌<◌, length, take, IfOk};
+ghost use Rattle.std.specs.Prelude.{◌≡◌, ◌≤◌, ◌<◌, length, take, IfOk, OnErr};
 ghost use Rattle.frame_lines.specs.Command.{command_of};
 ghost use Rattle.texts.specs.Put.{Put, Shown};
-ghost use Rattle.calls.specs.Run.{printed, words_after, line_of, block_line, Took, Ended};
+ghost use Rattle.calls.specs.Run.{printed, words_after, line_of, block_line, Took, Stopped, Ended};
 
 use answers::Answer;
 use frame_lines::Command;
@@ -80,6 +80,7 @@ fn run_line(
     ensures upper_bound { IfOk result (λ after. after ≤ length out.new) }
     ensures t_after { t.new ≡ words_after (command_of (take len held.now)) t.old }
     ensures shown { IfOk result (λ after. Shown (printed (command_of (take len held.now)) t.old) out.old after out.new) }
+    ensures not_shown { OnErr result (out.new ≡ out.old) }
 {
     let line = run(frame_lines::command_of(&held[..len]), t);
     let free = room(rt, out, at)?;
@@ -99,9 +100,10 @@ fn take_all(
     requires held_bound { place.held ≤ 81 }
     requires out_in_bounds { place.out ≤ length out.old }
     requires in_bounds { 160 ≤ length out.old }
-    ensures held_bound_2 { IfOk result (λ after. after.held ≤ 81) }
-    ensures out_in_bounds_2 { IfOk result (λ after. after.out ≤ length out.new) }
+    ensures held_after { IfOk result (λ after. after.held ≤ 81) }
+    ensures out_after { IfOk result (λ after. after.out ≤ length out.new) }
     ensures took { IfOk result (λ after. Took chunk.now held.old place.held t.old held.new after.held t.new) }
+    ensures stopped { OnErr result (Stopped chunk.now held.old place.held t.old t.new) }
 {
     let mut len = place.held;
     let mut at = place.out;
@@ -131,8 +133,9 @@ fn read_some(
     requires held_bound { place.held ≤ 81 }
     requires out_in_bounds { place.out ≤ length out.old }
     requires in_bounds { 160 ≤ length out.old }
-    ensures held_bound_2 { IfOk result (λ step. step.place.held ≤ 81) }
-    ensures out_in_bounds_2 { IfOk result (λ step. step.place.out ≤ length out.new) }
+    ensures held_after { IfOk result (λ step. step.place.held ≤ 81) }
+    ensures out_after { IfOk result (λ step. step.place.out ≤ length out.new) }
+    ensures words_left { OnErr result (length t.new ≡ length t.old) }
 {
     let mut buffer = [0u8; 4096];
     let n = input.read(&mut buffer)?;
@@ -160,7 +163,8 @@ fn put_table(rt: &impl Print, t: &[u64], out: &mut [u8], at: usize) -> io::Resul
     requires t_nonzero { 0 < length t.now }
     requires at_in_bounds { at ≤ length out.old }
     requires in_bounds { 160 ≤ length out.old }
-    ensures { IfOk result (λ after. after ≤ length out.new) }
+    ensures upper_bound { IfOk result (λ after. after ≤ length out.new) }
+    ensures room_left { OnErr result (length out.new ≡ length out.old) }
 {
     let head = t[0];
     let count = table::count_of(head);
@@ -185,8 +189,9 @@ fn read_all(
 ) -> io::Result<Place>
     requires held_len { length held.old ≡ 81 }
     requires in_bounds { 160 ≤ length out.old }
-    ensures held_bound { IfOk result (λ place. place.held ≤ 81) }
-    ensures out_in_bounds { IfOk result (λ place. place.out ≤ length out.new) }
+    ensures held_after { IfOk result (λ place. place.held ≤ 81) }
+    ensures out_after { IfOk result (λ place. place.out ≤ length out.new) }
+    ensures words_left { OnErr result (length t.new ≡ length t.old) }
 {
     let mut step = Step {
         place: Place { held: 0, out: 0 },
@@ -215,6 +220,7 @@ fn run_last(
     requires in_bounds { 160 ≤ length out.old }
     ensures upper_bound { IfOk result (λ after. after ≤ length out.new) }
     ensures ended { Ended held.now len t.old t.new }
+    ensures not_shown { OnErr result (out.new ≡ out.old) }
 {
     if len == 0 {
         return Ok(at);

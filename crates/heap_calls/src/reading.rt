@@ -1,7 +1,7 @@
 // The lines of the input, one after the other, however it is cut into chunks.
-ghost use Rattle.std.specs.Prelude.{◌≡◌, ◌≤◌, length, take, IfOk};
+ghost use Rattle.std.specs.Prelude.{◌≡◌, ◌≤◌, length, take, IfOk, OnErr};
 ghost use Rattle.heap_runs.specs.Run.{machine, Fits, nothing_lent};
-ghost use Rattle.heap_calls.specs.Running.{line_after, ShownShort, Took, Ended, EndedWords};
+ghost use Rattle.heap_calls.specs.Running.{line_after, ShownShort, Took, StoppedWords, Ended, EndedWords};
 
 use crate::{Place, Step};
 use heap_lines::command_of;
@@ -35,11 +35,12 @@ fn run_line(
     requires at_in_bounds { at ≤ length out.old }
     requires in_bounds { 160 ≤ length out.old }
     requires fits { Fits lent arena.old ledger.old }
-    ensures out_in_bounds { IfOk result (λ went. went.out ≤ length out.new) }
-    ensures fits_2 { IfOk result (λ went. Fits went.lent arena.new ledger.new) }
-    ensures ledger_after { IfOk result (λ went. machine went.lent arena.new ledger.new ≡ line_after (take len held.now) (machine lent arena.old ledger.old)) }
+    ensures out_after { IfOk result (λ went. went.out ≤ length out.new) }
+    ensures fits_after { IfOk result (λ went. Fits went.lent arena.new ledger.new) }
+    ensures machine_after { IfOk result (λ went. machine went.lent arena.new ledger.new ≡ line_after (take len held.now) (machine lent arena.old ledger.old)) }
     ensures arena_words { arena.new ≡ (line_after (take len held.now) (machine lent arena.old ledger.old)).arena }
     ensures ledger_words { ledger.new ≡ (line_after (take len held.now) (machine lent arena.old ledger.old)).ledger }
+    ensures room_left { OnErr result (length out.new ≡ length out.old) }
     ensures shown_short { IfOk result (λ went. ShownShort (take len held.now) (machine lent arena.old ledger.old) out.old went.out out.new) }
 {
     let ran = run(command_of(&held[..len]), lent, arena, ledger);
@@ -70,10 +71,11 @@ fn take_all(
     requires out_in_bounds { place.out ≤ length out.old }
     requires in_bounds { 160 ≤ length out.old }
     requires fits { Fits lent arena.old ledger.old }
-    ensures held_bound_2 { IfOk result (λ step. step.place.held ≤ 81) }
-    ensures out_in_bounds_2 { IfOk result (λ step. step.place.out ≤ length out.new) }
-    ensures fits_2 { IfOk result (λ step. Fits step.lent arena.new ledger.new) }
+    ensures held_after { IfOk result (λ step. step.place.held ≤ 81) }
+    ensures out_after { IfOk result (λ step. step.place.out ≤ length out.new) }
+    ensures fits_after { IfOk result (λ step. Fits step.lent arena.new ledger.new) }
     ensures took { IfOk result (λ step. Took chunk.now held.old place.held (machine lent arena.old ledger.old) held.new step.place.held (machine step.lent arena.new ledger.new)) }
+    ensures stopped { OnErr result (StoppedWords chunk.now held.old place.held (machine lent arena.old ledger.old) arena.new ledger.new) }
 {
     let mut now = lent;
     let mut len = place.held;
@@ -113,9 +115,10 @@ fn read_some(
     requires out_in_bounds { place.out ≤ length out.old }
     requires in_bounds { 160 ≤ length out.old }
     requires fits { Fits lent arena.old ledger.old }
-    ensures held_bound_2 { IfOk result (λ step. step.place.held ≤ 81) }
-    ensures out_in_bounds_2 { IfOk result (λ step. step.place.out ≤ length out.new) }
-    ensures fits_2 { IfOk result (λ step. Fits step.lent arena.new ledger.new) }
+    ensures held_after { IfOk result (λ step. step.place.held ≤ 81) }
+    ensures out_after { IfOk result (λ step. step.place.out ≤ length out.new) }
+    ensures fits_after { IfOk result (λ step. Fits step.lent arena.new ledger.new) }
+    ensures words_left { OnErr result ((length arena.new ≡ length arena.old) × (length ledger.new ≡ length ledger.old)) }
 {
     let mut buffer = [0u8; 4096];
     let n = input.read(&mut buffer)?;
@@ -153,9 +156,10 @@ pub(crate) fn read_all(
     requires held_len { length held.old ≡ 81 }
     requires in_bounds { 160 ≤ length out.old }
     requires arena_len { (length arena.old ≡ 4096) × (length ledger.old ≡ 512) }
-    ensures held_bound { IfOk result (λ step. step.place.held ≤ 81) }
-    ensures out_in_bounds { IfOk result (λ step. step.place.out ≤ length out.new) }
-    ensures fits { IfOk result (λ step. Fits step.lent arena.new ledger.new) }
+    ensures held_after { IfOk result (λ step. step.place.held ≤ 81) }
+    ensures out_after { IfOk result (λ step. step.place.out ≤ length out.new) }
+    ensures fits_after { IfOk result (λ step. Fits step.lent arena.new ledger.new) }
+    ensures words_left { OnErr result ((length arena.new ≡ length arena.old) × (length ledger.new ≡ length ledger.old)) }
 {
     let mut step = Step {
         place: Place { held: 0, out: 0 },
@@ -187,8 +191,8 @@ fn run_last(
     requires at_in_bounds { at ≤ length out.old }
     requires in_bounds { 160 ≤ length out.old }
     requires fits { Fits lent arena.old ledger.old }
-    ensures out_in_bounds { IfOk result (λ went. went.out ≤ length out.new) }
-    ensures fits_2 { IfOk result (λ went. Fits went.lent arena.new ledger.new) }
+    ensures out_after { IfOk result (λ went. went.out ≤ length out.new) }
+    ensures fits_after { IfOk result (λ went. Fits went.lent arena.new ledger.new) }
     ensures ended { IfOk result (λ went. Ended held.now len (machine lent arena.old ledger.old) (machine went.lent arena.new ledger.new)) }
     ensures ended_words { EndedWords held.now len (machine lent arena.old ledger.old) arena.new ledger.new }
 {

@@ -1,5 +1,5 @@
 // What is printed at the end: the record, the lists of a sound heap, and each lent word that is not zero.
-ghost use Rattle.std.specs.Prelude.{◌≤◌, length, IfOk};
+ghost use Rattle.std.specs.Prelude.{◌≡◌, ◌≤◌, length, IfOk, OnErr};
 ghost use Rattle.texts.specs.Put.{Put};
 ghost use Rattle.heap_listed.specs.Listing.{record_text, word_text};
 ghost use Rattle.heap_runs.specs.Run.{Fits};
@@ -26,7 +26,8 @@ fn put_record(heap: Heap, out: &mut [u8], at: usize) -> usize
 fn put_heads(rt: &impl Print, heap: Heap, out: &mut [u8], at: usize) -> io::Result<usize>
     requires at_in_bounds { at ≤ length out.old }
     requires in_bounds { 160 ≤ length out.old }
-    ensures { IfOk result (λ after. after ≤ length out.new) }
+    ensures upper_bound { IfOk result (λ after. after ≤ length out.new) }
+    ensures room_left { OnErr result (length out.new ≡ length out.old) }
 {
     let heads = heap.heads;
     let first = room(rt, out, at)?;
@@ -52,7 +53,8 @@ fn put_list(
 ) -> io::Result<usize>
     requires at_in_bounds { at ≤ length out.old }
     requires in_bounds { 160 ≤ length out.old }
-    ensures { IfOk result (λ after. after ≤ length out.new) }
+    ensures upper_bound { IfOk result (λ after. after ≤ length out.new) }
+    ensures room_left { OnErr result (length out.new ≡ length out.old) }
 {
     if head == 0 {
         return Ok(at);
@@ -72,7 +74,8 @@ fn put_lists(
 ) -> io::Result<usize>
     requires at_in_bounds { at ≤ length out.old }
     requires in_bounds { 160 ≤ length out.old }
-    ensures { IfOk result (λ after. after ≤ length out.new) }
+    ensures upper_bound { IfOk result (λ after. after ≤ length out.new) }
+    ensures room_left { OnErr result (length out.new ≡ length out.old) }
 {
     let heads = heap.heads;
     let mut to = at;
@@ -94,7 +97,8 @@ fn put_free(
 ) -> io::Result<usize>
     requires at_in_bounds { at ≤ length out.old }
     requires in_bounds { 160 ≤ length out.old }
-    ensures { IfOk result (λ after. after ≤ length out.new) }
+    ensures upper_bound { IfOk result (λ after. after ≤ length out.new) }
+    ensures room_left { OnErr result (length out.new ≡ length out.old) }
 {
     if !heap_sound::sound(heap, arena, ledger) {
         let free = room(rt, out, at)?;
@@ -124,7 +128,8 @@ fn put_some(
 ) -> io::Result<usize>
     requires at_in_bounds { at ≤ length out.old }
     requires in_bounds { 160 ≤ length out.old }
-    ensures { IfOk result (λ after. after ≤ length out.new) }
+    ensures upper_bound { IfOk result (λ after. after ≤ length out.new) }
+    ensures room_left { OnErr result (length out.new ≡ length out.old) }
 {
     if word == 0 {
         return Ok(at);
@@ -143,7 +148,8 @@ fn put_words(
 ) -> io::Result<usize>
     requires at_in_bounds { at ≤ length out.old }
     requires in_bounds { 160 ≤ length out.old }
-    ensures { IfOk result (λ after. after ≤ length out.new) }
+    ensures upper_bound { IfOk result (λ after. after ≤ length out.new) }
+    ensures room_left { OnErr result (length out.new ≡ length out.old) }
 {
     let mut to = at;
     let mut i = 0;
@@ -166,7 +172,8 @@ pub fn put_all(
     requires fits { Fits lent arena.now ledger.now }
     requires at_in_bounds { at ≤ length out.old }
     requires in_bounds { 160 ≤ length out.old }
-    ensures { IfOk result (λ after. after ≤ length out.new) }
+    ensures upper_bound { IfOk result (λ after. after ≤ length out.new) }
+    ensures room_left { OnErr result (length out.new ≡ length out.old) }
 {
     let n = lent.words;
     let k = lent.records;

@@ -1,5 +1,5 @@
 // What a line prints.
-ghost use Rattle.std.specs.Prelude.{false, ◌≡◌, ◌≤◌, length, IfOk, IsOkAnd};
+ghost use Rattle.std.specs.Prelude.{false, ◌≡◌, ◌≤◌, length, IfOk, OnErr, IsOkAnd};
 ghost use Rattle.answers.specs.Paper.{paper};
 ghost use Rattle.texts.specs.Put.{Put};
 ghost use Rattle.heap_runs.specs.Text.{reply_text, figures_text, line_of, by_node};
@@ -41,7 +41,8 @@ pub fn put_nodes(
 ) -> io::Result<usize>
     requires at_in_bounds { at ≤ length out.old }
     requires in_bounds { 160 ≤ length out.old }
-    ensures { IfOk result (λ after. after ≤ length out.new) }
+    ensures upper_bound { IfOk result (λ after. after ≤ length out.new) }
+    ensures room_left { OnErr result (length out.new ≡ length out.old) }
 {
     let mut step = following(arena, head, 0);
     let mut left = most;
@@ -66,7 +67,8 @@ fn put_list(
 ) -> io::Result<usize>
     requires at_in_bounds { at ≤ length out.old }
     requires in_bounds { 160 ≤ length out.old }
-    ensures { IfOk result (λ after. after ≤ length out.new) }
+    ensures upper_bound { IfOk result (λ after. after ≤ length out.new) }
+    ensures room_left { OnErr result (length out.new ≡ length out.old) }
 {
     let first = put_with(b"0 ", count as u64, out, at);
     put_nodes(rt, head, arena.len(), arena, out, first)
@@ -83,6 +85,7 @@ pub fn put_printed(
     requires at_in_bounds { at ≤ length out.old }
     requires in_bounds { 160 ≤ length out.old }
     ensures upper_bound { IfOk result (λ after. after ≤ length out.new) }
+    ensures room_left { OnErr result (length out.new ≡ length out.old) }
     ensures put { by_node line ≡ false → IsOkAnd result (λ after. Put (line_of arena.now line) out.old at after out.new) }
 {
     match line {

@@ -6,7 +6,8 @@ use Prim.Native.Nat.{ℕ, ◌+◌, ◌≤◌, ◌<◌}
 use native.Mathlib.Nat.{add_assoc}
 use native.Mathlib.Omega.{arith}
 use lib.ListN.{length, take, drop, drop_of_length-le, length-take, length-drop}
-use lib.Seq.{sets, drop-drop}
+use lib.Seq.{sets, drop-drop, take-append_seam}
+use Rattle.std.specs.Prelude.{Result, Ok, Err, OnErr}
 use Rattle.lines.specs.Gather.{Reading, fed, line_here, line_ends, gathered, last_line, lines_of}
 use Rattle.texts.specs.Put.{place_after}
 use Rattle.lines.specs.Running.{after_all, Holds, Took, Ended}
@@ -34,6 +35,22 @@ pub over : {S : Type 0} (step : List ℕ → S → S) (chunk line : List ℕ) (b
 over step chunk line before from held len now h g =
     let all : fed (record { done = []; held = line }) chunk ≡ g.reading = g.on ∙ ap (fed g.reading) (drop_of_length-le chunk {i = from} h) in
     (g.holds ∙ ap (λ (r : Reading). take 81 r.held) (sym all), g.ran ∙ ap (λ (r : Reading). after_all step r.done before) (sym all))
+
+-- wherever the reading has come to, the lines that were run are the first of the chunk's
+pub ran-first : {S : Type 0} (step : List ℕ → S → S) (chunk line : List ℕ) (before : S) (from : ℕ) (held : List ℕ) (len : ℕ) (now : S)
+    → Going step chunk line before from held len now → (n : ℕ) × (now ≡ after_all step (take n (fed (record { done = []; held = line }) chunk).done) before)
+ran-first step chunk line before from held len now g =
+    let rest : List (List ℕ) = (fed (record { done = []; held = g.reading.held }) (drop from chunk)).done in
+    let all : (fed (record { done = []; held = line }) chunk).done ≡ g.reading.done ++ rest =
+    ap (λ (r : Reading). r.done) (g.on ∙ fed-from (drop from chunk) g.reading.done g.reading.held) in
+    let first : take (length g.reading.done) (fed (record { done = []; held = line }) chunk).done ≡ g.reading.done =
+    ap (take (length g.reading.done)) all ∙ take-append_seam g.reading.done rest in
+    (length g.reading.done, g.ran ∙ ap (λ (ls : List (List ℕ)). after_all step ls before) (sym first))
+
+-- what holds anyway holds where there is an error
+pub on-err : {T E P : Type 0} (r : Result T E) → P → OnErr r P
+on-err (Ok x) p = tt
+on-err (Err e) p = p
 
 -- one turn: what `gather` took of the chunk, and the buffer that it left
 module _

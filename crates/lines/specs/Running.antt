@@ -17,6 +17,12 @@ Took step chunk held len s held' len' s' =
     → Holds held' len' (fed (record { done = []; held = line }) chunk).held
     × (s' ≡ after_all step (fed (record { done = []; held = line }) chunk).done s)
 
+-- A chunk of the input of which the reading ended on the way, since the output could not be written: of the lines that end in it the first were run, and no
+-- other.
+abbrev pub Stopped : {S : Type 0} → (List ℕ → S → S) → List ℕ → List ℕ → ℕ → S → S → Type 0
+Stopped step chunk held len s s' =
+    (line : List ℕ) → Holds held len line → (n : ℕ) × (s' ≡ after_all step (take n (fed (record { done = []; held = line }) chunk).done) s)
+
 -- at the input's end what is held is a line, unless nothing is
 abbrev pub Ended : {S : Type 0} → (List ℕ → S → S) → List ℕ → ℕ → S → S → Type 0
 Ended step held len s s' = (line : List ℕ) → Holds held len line → s' ≡ after_all step (last_line line) s

@@ -11,6 +11,7 @@ pub returns-then-len-eq0 : goal.returns-then-len-eq0
 returns-then-len-eq0 g c = let a = c.args in record {
   upper_bound = search rules;
   ended = last_none line_after a.held.now a.t.now a.len (omega arith);
+  not_shown = search rules;
 }
 
 pub returns : goal.returns
@@ -20,4 +21,5 @@ returns g c =
     let some : 0 < a.len = omega (arith, c.if-len-eq0.false) in record {
       upper_bound = search rules;
       ended = last_some line_after enough a.held.now a.t.now r.new.t a.len some (omega arith) r.ensures.t_after;
+      not_shown = search rules;
     }

@@ -8,7 +8,7 @@ use lib.Seq.{length-sets}
 use Rattle.lines.specs.Gather.{line_here}
 use Rattle.lines.specs.declared.Gathered.{Gathered}
 use Rattle.lines.proofs.Gathering.{moves}
-use Rattle.lines.proofs.Going.{begun, over, turn-ended, turn-open}
+use Rattle.lines.proofs.Going.{begun, on-err, over, ran-first, turn-ended, turn-open}
 use Rattle.calls.specs.Run.{line_after}
 use Rattle.calls.proofs.Enough.{enough}
 use Rattle.calls.proofs.take_all.Goals as goal
@@ -74,7 +74,25 @@ returns g c =
     let l = c.loop-from in
     let a = c.args in
     record {
-      held_bound_2 = search rules;
-      out_in_bounds_2 = search rules;
+      held_after = search rules;
+      out_after = search rules;
       took = λ line h. over line_after a.chunk.now line a.t.now l.from l.held l.len l.t (omega arith) (l.invariant.5 line h);
+      stopped = search rules;
+    }
+
+pub returns-in_err-at : goal.returns-in_err-at
+returns-in_err-at g c =
+    let l = c.loop-from in
+    let a = c.args in
+    let r = c.run_line in
+    record {
+      held_after = search rules;
+      out_after = search rules;
+      took = search rules;
+      stopped =
+          on-err c.from_residual.result
+          (λ line h.
+          ran-first line_after a.chunk.now line a.t.now c.gather-g.result.at c.gather-g.new.held 0 r.new.t
+          (turn-ended line_after enough a.chunk.now line a.t.now l.from l.held l.len l.t l.invariant.2 l.invariant.0 (l.invariant.5 line h) c.gather-g.result c.gather-g.new.held
+          c.gather-g.ensures.value c.gather-g.ensures.held_after r.new.t c.if-g.true r.ensures.t_after));
     }

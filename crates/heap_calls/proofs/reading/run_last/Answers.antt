@@ -16,8 +16,8 @@ pub returns-then-len-eq0 : goal.returns-then-len-eq0
 returns-then-len-eq0 g c =
     let a = c.args in
     let none = last_none line_after a.held.now (machine a.lent a.arena.now a.ledger.now) a.len (omega arith) in record {
-      out_in_bounds = search rules;
-      fits_2 = search rules;
+      out_after = search rules;
+      fits_after = search rules;
       ended = none;
       ended_words = λ line h. (ap (λ (m : Machine). m.arena) (none line h), ap (λ (m : Machine). m.ledger) (none line h));
     }
@@ -29,11 +29,11 @@ returns g c =
     let some : 0 < a.len = omega (arith, c.if-len-eq0.false) in
     let now = machine a.lent a.arena.now a.ledger.now in
     let last = last_some line_after enough a.held.now now (line_after (take a.len a.held.now) now) a.len some (omega arith) refl in record {
-      out_in_bounds = r.ensures.out_in_bounds;
-      fits_2 = r.ensures.fits_2;
+      out_after = r.ensures.out_after;
+      fits_after = r.ensures.fits_after;
       ended =
           IfOk-weaker r.result (λ (went : Went). machine went.lent r.new.arena r.new.ledger ≡ line_after (take a.len a.held.now) now)
           (λ (went : Went). Ended a.held.now a.len now (machine went.lent r.new.arena r.new.ledger))
-          (λ went ran. last_some line_after enough a.held.now now (machine went.lent r.new.arena r.new.ledger) a.len some (omega arith) ran) r.ensures.ledger_after;
+          (λ went ran. last_some line_after enough a.held.now now (machine went.lent r.new.arena r.new.ledger) a.len some (omega arith) ran) r.ensures.machine_after;
       ended_words = λ line h. (r.ensures.arena_words ∙ ap (λ (m : Machine). m.arena) (last line h), r.ensures.ledger_words ∙ ap (λ (m : Machine). m.ledger) (last line h));
     }

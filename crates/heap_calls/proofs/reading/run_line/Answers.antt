@@ -19,11 +19,12 @@ returns g c =
     let d = r.ensures.does in
     let p = c.put_printed in
     let ran = d.machine_is ∙ ap (λ (m : Command). after m (machine a.lent a.arena.now a.ledger.now)) command in record {
-      out_in_bounds = c.in_ok-end.ensures.upper_bound;
-      fits_2 = r.ensures.fits;
-      ledger_after = ran;
+      out_after = c.in_ok-end.ensures.upper_bound;
+      fits_after = r.ensures.fits;
+      machine_after = ran;
       arena_words = ap (λ (m : Machine). m.arena) ran;
       ledger_words = ap (λ (m : Machine). m.ledger) ran;
+      room_left = search rules;
       shown_short = λ h.
           let short : by_node r.result.line ≡ false = d.long_is ∙ ap (λ (m : Command). is_long m (machine a.lent a.arena.now a.ledger.now)) command ∙ h in
           shown (take r.result.lent.words r.new.arena) r.result.line (printed (command_of (take a.len a.held.now)) (machine a.lent a.arena.now a.ledger.now)) a.out.now p.new.out c.in_ok-free.free c.in_ok-end.end short
@@ -34,11 +35,12 @@ pub returns-in_err-free : goal.returns-in_err-free
 returns-in_err-free g c =
     let a = c.args in
     let ran = c.run-ran.ensures.does.machine_is ∙ ap (λ (m : Command). after m (machine a.lent a.arena.now a.ledger.now)) c.command_of.ensures in record {
-      out_in_bounds = search rules;
-      fits_2 = search rules;
-      ledger_after = search rules;
+      out_after = search rules;
+      fits_after = search rules;
+      machine_after = search rules;
       arena_words = ap (λ (m : Machine). m.arena) ran;
       ledger_words = ap (λ (m : Machine). m.ledger) ran;
+      room_left = search rules;
       shown_short = search rules;
     }
 
@@ -46,10 +48,11 @@ pub returns-in_err-end : goal.returns-in_err-end
 returns-in_err-end g c =
     let a = c.args in
     let ran = c.run-ran.ensures.does.machine_is ∙ ap (λ (m : Command). after m (machine a.lent a.arena.now a.ledger.now)) c.command_of.ensures in record {
-      out_in_bounds = search rules;
-      fits_2 = search rules;
-      ledger_after = search rules;
+      out_after = search rules;
+      fits_after = search rules;
+      machine_after = search rules;
       arena_words = ap (λ (m : Machine). m.arena) ran;
       ledger_words = ap (λ (m : Machine). m.ledger) ran;
+      room_left = search rules;
       shown_short = search rules;
     }

@@ -10,6 +10,7 @@ pub returns-in-Reply : goal.returns-in-Reply
 returns-in-Reply g c =
     let p = c.put_reply in record {
       upper_bound = omega (arith, p.ensures.place, ap length p.ensures.bytes);
+      room_left = tt;
       put = λ h. rw c.in-Reply.is p.ensures;
     }
 
@@ -17,13 +18,15 @@ pub returns-in-Figures : goal.returns-in-Figures
 returns-in-Figures g c =
     let p = c.put_figures in record {
       upper_bound = omega (arith, p.ensures.place, ap length p.ensures.bytes);
+      room_left = tt;
       put = λ h. rw c.in-Figures.is p.ensures;
     }
 
 pub returns-in-Nodes : goal.returns-in-Nodes
 returns-in-Nodes g c =
     let never : (z : by_node c.args.line ≡ false) → ⊥ = λ z. let t : ◌≡◌ {A = Bool} true false = ap by_node (sym c.in-Nodes.is) ∙ z in cc in record {
-      upper_bound = c.put_list.ensures;
+      upper_bound = c.put_list.ensures.upper_bound;
+      room_left = c.put_list.ensures.room_left;
       put = λ h. absurd (never h);
     }
 
@@ -31,6 +34,7 @@ pub returns-in-Set : goal.returns-in-Set
 returns-in-Set g c =
     let p = c.put in record {
       upper_bound = omega (arith, p.ensures.place, ap length p.ensures.bytes);
+      room_left = tt;
       put = λ h. rw c.in-Set.is p.ensures;
     }
 
@@ -38,5 +42,6 @@ pub returns-in-BadLine : goal.returns-in-BadLine
 returns-in-BadLine g c =
     let p = c.put-in-BadLine in record {
       upper_bound = omega (arith, p.ensures.place, ap length p.ensures.bytes);
+      room_left = tt;
       put = λ h. rw c.in-BadLine.is p.ensures;
     }
