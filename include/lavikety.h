@@ -24,7 +24,7 @@
  *   - Nobody else reads or writes these words while a call runs: no other thread, no interrupt, no DMA. There is no lock inside.
  *   - `figures` points to three words that are not in the table, and is 8-byte aligned.
  *
- * MACHINES. The library is built for Linux on x86-64 and aarch64, where an answer comes back in two registers. A call needs at most 600
+ * MACHINES. The library is built for Linux on x86-64, where an answer comes back in two registers. A call needs at most 600
  * bytes of stack (as compiled for x86-64) beside what memset needs.
  *
  * TIME. Each call but the making of a table reads every lent word once to see that the table is sound. Then a grant goes over the
@@ -45,7 +45,7 @@
  *     }
  *
  * examples/frames.c is a whole program. TO LINK: liblavikety.a, beside which this header is shipped, has all of it but the numbers of blocks at
- * the end (tools/dist writes it, for x86-64); or, for the machine at hand, tools/native frame_c and target/native/libframe_c.a. At link time the
+ * the end (tools/dist writes it); or tools/native frame_c and target/native/libframe_c.a. At link time the
  * frame calls need memset and nothing else.
  */
 #ifndef LAVIKETY_H
