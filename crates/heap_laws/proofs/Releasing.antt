@@ -13,7 +13,7 @@ use Rattle.blocks.specs.Laws.{Buddies, upper, lower}
 use Rattle.blocks.proofs.Buddies.{pair}
 use Rattle.linked_list.specs.Links.{compared}
 use Rattle.linked_list.specs.Chains.{without}
-use Rattle.heap_state.specs.Lists.{Memory, push, pop, remove, stands, Released, joined_up, release}
+use Rattle.heap_state.specs.Lists.{Memory, push, pop, remove, stands, Released, join_up, release}
 use Rattle.heap_blocks.specs.Sound.{Block, blk}
 use Rattle.heap_laws.specs.ListRules.{of_class, push_l, pop_l, remove_l, ReleasedL, join_up_l, release_l}
 use Rattle.heap_laws.proofs.Placing.{Fits, Placed, next}
@@ -69,8 +69,8 @@ pub record Freed (order n total : ℕ) (r : Released) (l : ReleasedL) (others : 
   pub compared : r.nodes_compared ≡ l.nodes_compared
 
 joined_up : {order n total : ℕ} {m : Memory} {ls : List (List ℕ)} {others : List Block} {xs : List ℕ} (above k a before : ℕ) → k + above < order →
-    Managed order n total m ls others → of_class k ls ≡ a ∷ xs → Freed order n total (joined_up above k a before m) (join_up_l above k a before ls) others
-unfolding joined_up join_up_l
+    Managed order n total m ls others → of_class k ls ≡ a ∷ xs → Freed order n total (join_up above k a before m) (join_up_l above k a before ls) others
+unfolding join_up join_up_l
 joined_up zero k a before h g e = record { managed = g; compared = refl }
 joined_up {order} {n} {total} {m} {ls} {others} (suc above) k a before h g e =
     go (stands b (of_class k ls)) refl
@@ -85,11 +85,11 @@ joined_up {order} {n} {total} {m} {ls} {others} (suc above) k a before h g e =
     c = min a b
 
     go : (t : Bool) → stands b (of_class k ls) ≡ t →
-        (stands b (of_class k ls) ≡ true → Freed order n total (joined_up above (suc k) c (before + compared b (of_class k ls)) (push (suc k) c (pop k (remove k b m))))
+        (stands b (of_class k ls) ≡ true → Freed order n total (join_up above (suc k) c (before + compared b (of_class k ls)) (push (suc k) c (pop k (remove k b m))))
         (join_up_l above (suc k) c (before + compared b (of_class k ls)) (push_l (suc k) c (remove_l k a (remove_l k b ls)))) others) →
-        Freed order n total (joined_up (suc above) k a before m) (join_up_l (suc above) k a before ls) others
-    go true e rest = rw (list-is k g, e, joined_up, join_up_l) (rw (list-is k g) (rest e))
-    go false e rest = rw (list-is k g, e, joined_up, join_up_l) (record { managed = g; compared = ap (λ (l : List ℕ). before + compared b l) (list-is k g) })
+        Freed order n total (join_up (suc above) k a before m) (join_up_l (suc above) k a before ls) others
+    go true e rest = rw (list-is k g, e, join_up, join_up_l) (rw (list-is k g) (rest e))
+    go false e rest = rw (list-is k g, e, join_up, join_up_l) (record { managed = g; compared = ap (λ (l : List ℕ). before + compared b l) (list-is k g) })
 
 pub release-managed : {order n total : ℕ} {m : Memory} {ls : List (List ℕ)} {others : List Block} (top k a : ℕ) → k ≤ top → top < order →
     Managed order n total m ls (blk k a ∷ others) → Freed order n total (release top k a m) (release_l top k a ls) others
