@@ -1,0 +1,9 @@
+-- `texts::output::room` meets its contract: behind the place there is room, at the front of the buffer or where the test of it failed. Assumes nothing.
+use native.Mathlib.Omega.{arith}
+use Rattle.texts.proofs.output.room.Goals as goal
+
+pub returns-then-out-at-lt-LONGEST : goal.returns-then-out-at-lt-LONGEST
+returns-then-out-at-lt-LONGEST g c = omega arith
+
+pub returns : goal.returns
+returns g c = omega arith
