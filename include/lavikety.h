@@ -137,7 +137,7 @@ uint64_t lavikety_frame_summary(const uint64_t *table, size_t words, uint64_t fi
  * TIME. Each call but the making tests the heap first, which compares every free block with every other block: with some hundreds of
  * blocks that is most of the time of a call. Lend a ledger no longer than you need, and ask for few sizes.
  *
- * MACHINES, as for tables; a call needs at most 2,500 bytes of stack (as compiled for x86-64) beside what memcpy and memset need, and at
+ * MACHINES, as for tables; a call needs at most 2,900 bytes of stack (as compiled for x86-64) beside what memcpy and memset need, and at
  * link time the heap needs these two and nothing else. examples/heap.c is a whole program.
  *
  * EXAMPLE
