@@ -1,4 +1,4 @@
-// The heap with its record held in place, as the Rust's `&mut self` holds it, for C and for whoever keeps the record in its own memory: each
+// The heap with its record held in place, as the Rust's `&mut self` holds it, for heap_held_c and for whoever keeps the record in its own memory: each
 // function copies the record out, calls the by-value core and stores the record that is left. include/lavikety.h is what C sees of it.
 
 #![tactic(auto)]

@@ -16,10 +16,10 @@ returns g c =
     let line = c.run-line in
     let free = c.in_ok-free in
     let p = c.put_printed in record {
-      upper_bound = omega (arith, p.ensures.place, ap length p.ensures.bytes);
+      upper_bound = omega (arith, free.ensures.made, p.ensures.place, ap length p.ensures.bytes);
       t_after = line.ensures.t_after ∙ ap (λ (m : Command). words_after m a.t.now) command;
       shown = shown line.result (printed (command_of (take a.len a.held.now)) a.t.now) a.out.now p.new.out free.free p.result
-          (line.ensures.result_value ∙ ap (λ (m : Command). printed m a.t.now) command) (omega (arith, free.ensures)) p.ensures;
+          (line.ensures.result_value ∙ ap (λ (m : Command). printed m a.t.now) command) (omega (arith, free.ensures.made)) p.ensures;
       not_shown = search rules;
     }
 

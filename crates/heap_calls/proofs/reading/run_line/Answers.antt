@@ -28,7 +28,7 @@ returns g c =
       shown_short = λ h.
           let short : by_node r.result.line ≡ false = d.long_is ∙ ap (λ (m : Command). is_long m (machine a.lent a.arena.now a.ledger.now)) command ∙ h in
           shown (take r.result.lent.words r.new.arena) r.result.line (printed (command_of (take a.len a.held.now)) (machine a.lent a.arena.now a.ledger.now)) a.out.now p.new.out c.in_ok-free.free c.in_ok-end.end short
-          (d.line_is ∙ ap (λ (m : Command). printed m (machine a.lent a.arena.now a.ledger.now)) command) (omega (arith, c.in_ok-free.ensures)) (c.in_ok-end.ensures.put short);
+          (d.line_is ∙ ap (λ (m : Command). printed m (machine a.lent a.arena.now a.ledger.now)) command) (omega (arith, c.in_ok-free.ensures.made)) (c.in_ok-end.ensures.put short);
     }
 
 pub returns-in_err-free : goal.returns-in_err-free

@@ -2,8 +2,8 @@
 use native.Mathlib.Omega.{arith}
 use Rattle.texts.proofs.output.room.Goals as goal
 
-pub returns-then-out-at-lt-LONGEST : goal.returns-then-out-at-lt-LONGEST
-returns-then-out-at-lt-LONGEST g c = omega arith
+pub returns-then-out-at-lt-LONGEST-clause-made : goal.returns-then-out-at-lt-LONGEST-clause-made
+returns-then-out-at-lt-LONGEST-clause-made g c = omega arith
 
-pub returns : goal.returns
-returns g c = omega arith
+pub returns-clause-made : goal.returns-clause-made
+returns-clause-made g c = omega arith
