@@ -2,7 +2,7 @@
 
 #![tactic(auto)]
 
-ghost use Rattle.std.specs.Prelude.{◌≡◌, ◌≤◌, ◌<◌, length, take, IfOk, OnErr};
+ghost use Rattle.std.specs.Prelude.{◌≡◌, ◌≤◌, ◌<◌, length, take, IfOk, IsOk, OnErr, ◌+◌};
 ghost use Rattle.frame_lines.specs.Command.{command_of};
 ghost use Rattle.texts.specs.Put.{Put, Shown};
 ghost use Rattle.calls.specs.Run.{printed, words_after, line_of, block_line, Took, Stopped, Ended};
@@ -81,6 +81,7 @@ fn run_line(
     ensures t_after { t.new ≡ words_after (command_of (take len held.now)) t.old }
     ensures shown { IfOk result (λ after. Shown (printed (command_of (take len held.now)) t.old) out.old after out.new) }
     ensures not_shown { OnErr result (out.new ≡ out.old) }
+    ensures no_error { at + 160 ≤ length out.old → IsOk result }
 {
     let line = run(frame_lines::command_of(&held[..len]), t);
     let free = room(rt, out, at)?;
@@ -221,6 +222,7 @@ fn run_last(
     ensures upper_bound { IfOk result (λ after. after ≤ length out.new) }
     ensures ended { Ended held.now len t.old t.new }
     ensures not_shown { OnErr result (out.new ≡ out.old) }
+    ensures no_error { at + 160 ≤ length out.old → IsOk result }
 {
     if len == 0 {
         return Ok(at);

@@ -1,6 +1,8 @@
 // The lines of the input, one after the other, however it is cut into chunks.
-ghost use Rattle.std.specs.Prelude.{◌≡◌, ◌≤◌, length, take, IfOk, OnErr};
+ghost use Rattle.std.specs.Prelude.{◌≡◌, ◌≤◌, length, take, IfOk, IsOk, OnErr, ◌+◌, false};
+ghost use Rattle.heap_lines.specs.Command.{command_of};
 ghost use Rattle.heap_runs.specs.Run.{machine, Fits, nothing_lent};
+ghost use Rattle.heap_runs.specs.Text.{is_long};
 ghost use Rattle.heap_calls.specs.Running.{line_after, ShownShort, Took, StoppedWords, Ended, EndedWords};
 
 use crate::{Place, Step};
@@ -42,6 +44,7 @@ fn run_line(
     ensures ledger_words { ledger.new ≡ (line_after (take len held.now) (machine lent arena.old ledger.old)).ledger }
     ensures room_left { OnErr result (length out.new ≡ length out.old) }
     ensures shown_short { IfOk result (λ went. ShownShort (take len held.now) (machine lent arena.old ledger.old) out.old went.out out.new) }
+    ensures no_error { is_long (command_of (take len held.now)) (machine lent arena.old ledger.old) ≡ false → at + 160 ≤ length out.old → IsOk result }
 {
     let ran = run(command_of(&held[..len]), lent, arena, ledger);
     let after = ran.lent;

@@ -12,6 +12,7 @@ returns-then-len-eq0 g c = let a = c.args in record {
   upper_bound = search rules;
   ended = last_none line_after a.held.now a.t.now a.len (omega arith);
   not_shown = search rules;
+  no_error = λ h. search rules;
 }
 
 pub returns : goal.returns
@@ -22,4 +23,5 @@ returns g c =
       upper_bound = search rules;
       ended = last_some line_after enough a.held.now a.t.now r.new.t a.len some (omega arith) r.ensures.t_after;
       not_shown = search rules;
+      no_error = r.ensures.no_error;
     }

@@ -21,6 +21,7 @@ returns g c =
       shown = shown line.result (printed (command_of (take a.len a.held.now)) a.t.now) a.out.now p.new.out free.free p.result
           (line.ensures.result_value ∙ ap (λ (m : Command). printed m a.t.now) command) (omega (arith, free.ensures.made)) p.ensures;
       not_shown = search rules;
+      no_error = λ h. search rules;
     }
 
 pub returns-in_err-free : goal.returns-in_err-free
@@ -31,4 +32,5 @@ returns-in_err-free g c =
       t_after = c.run-line.ensures.t_after ∙ ap (λ (m : Command). words_after m a.t.now) c.command_of.ensures;
       shown = search rules;
       not_shown = search rules;
+      no_error = λ h. absurd (c.in_err-free.ensures.no_error h);
     }

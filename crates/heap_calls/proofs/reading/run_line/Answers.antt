@@ -29,6 +29,7 @@ returns g c =
           let short : by_node r.result.line ≡ false = d.long_is ∙ ap (λ (m : Command). is_long m (machine a.lent a.arena.now a.ledger.now)) command ∙ h in
           shown (take r.result.lent.words r.new.arena) r.result.line (printed (command_of (take a.len a.held.now)) (machine a.lent a.arena.now a.ledger.now)) a.out.now p.new.out c.in_ok-free.free c.in_ok-end.end short
           (d.line_is ∙ ap (λ (m : Command). printed m (machine a.lent a.arena.now a.ledger.now)) command) (omega (arith, c.in_ok-free.ensures.made)) (c.in_ok-end.ensures.put short);
+      no_error = λ h r. search rules;
     }
 
 pub returns-in_err-free : goal.returns-in_err-free
@@ -42,6 +43,7 @@ returns-in_err-free g c =
       ledger_words = ap (λ (m : Machine). m.ledger) ran;
       room_left = search rules;
       shown_short = search rules;
+      no_error = λ h r. absurd (c.in_err-free.ensures.no_error r);
     }
 
 pub returns-in_err-end : goal.returns-in_err-end
@@ -55,4 +57,8 @@ returns-in_err-end g c =
       ledger_words = ap (λ (m : Machine). m.ledger) ran;
       room_left = search rules;
       shown_short = search rules;
+      no_error = λ h r.
+          let d = c.run-ran.ensures.does in
+          let short : by_node c.run-ran.result.line ≡ false = d.long_is ∙ ap (λ (m : Command). is_long m (machine a.lent a.arena.now a.ledger.now)) c.command_of.ensures ∙ h in
+          absurd (c.in_err-end.ensures.put short);
     }
