@@ -1,12 +1,15 @@
-// What a call answers: done, with a value, or refused, with one of the numbers of docs/RULES.md, "Refusal numbers".
+// What a call answers: a value, or a refusal with one of the numbers of docs/RULES.md, "Refusal numbers".
 
 #![tactic(auto)]
 
-ghost use Rattle.std.specs.Prelude.{◌≡◌};
+ghost use Rattle.std.specs.Prelude.{◌≡◌, ℕ};
 ghost use Rattle.answers.specs.Paper.{number_of, paper};
 
+use std::error::Error;
+use std::fmt;
+
 // One case for each refusal number, 1 to 11, in the order of the numbers.
-#[derive(Clone, Copy)]
+#[derive(Clone, Copy, Debug, PartialEq, Eq)]
 pub enum Refusal {
     BadOrder,
     BadSize,
@@ -21,19 +24,43 @@ pub enum Refusal {
     NoRoom,
 }
 
-#[derive(Clone, Copy)]
-pub enum Answer {
-    Done(u64),
-    Refused(Refusal),
+pub type Answer = Result<u64, Refusal>;
+
+impl From<Refusal> for u64 {
+    ghost from_gives = { λ refusal n. n ≡ number_of refusal };
+
+    fn from(refusal: Refusal) -> u64 {
+        match refusal {
+            Refusal::BadOrder => 1,
+            Refusal::BadSize => 2,
+            Refusal::BadState => 3,
+            Refusal::BadRange => 4,
+            Refusal::NullStart => 5,
+            Refusal::Overlap => 6,
+            Refusal::BadAlign => 7,
+            Refusal::Misaligned => 8,
+            Refusal::NoBlock => 9,
+            Refusal::NotGranted => 10,
+            Refusal::NoRoom => 11,
+        }
+    }
 }
+
+impl fmt::Display for Refusal {
+    fn fmt<W: fmt::Write>(&self, f: &mut fmt::Formatter<W>) -> fmt::Result {
+        write!(f, "refused with {}", u64::from(*self))
+    }
+}
+
+impl Error for Refusal {}
 
 // 0 for an accepted call, and the refusal's number for a refused one.
 pub fn number(answer: Answer) -> u64
     ensures { result ≡ (paper answer).number }
 {
     match answer {
-        Answer::Done(_) => 0,
-        Answer::Refused(refusal) => refusal_number(refusal),
+        Ok(_) => 0,
+        Err(refusal) => u64::from(refusal),
     }
 }
 
@@ -41,26 +68,5 @@ pub fn number(answer: Answer) -> u64
 pub fn value(answer: Answer) -> u64
     ensures { result ≡ (paper answer).value }
 {
-    match answer {
-        Answer::Done(v) => v,
-        Answer::Refused(_) => 0,
-    }
-}
-
-pub fn refusal_number(refusal: Refusal) -> u64
-    ensures { result ≡ number_of refusal }
-{
-    match refusal {
-        Refusal::BadOrder => 1,
-        Refusal::BadSize => 2,
-        Refusal::BadState => 3,
-        Refusal::BadRange => 4,
-        Refusal::NullStart => 5,
-        Refusal::Overlap => 6,
-        Refusal::BadAlign => 7,
-        Refusal::Misaligned => 8,
-        Refusal::NoBlock => 9,
-        Refusal::NotGranted => 10,
-        Refusal::NoRoom => 11,
-    }
+    answer.unwrap_or(0)
 }

@@ -1,5 +1,5 @@
 -- An answer as C gets it, from docs/RULES.md, "Refusal numbers": the number and the value of the answer on paper.
-use Rattle.answers.specs.declared.Answer.{Answer}
+use Rattle.answers.specs.Paper.{Answer}
 use Rattle.answers.specs.Paper.{paper}
 use Rattle.answers_c.specs.declared.CAnswer.{CAnswer}
 

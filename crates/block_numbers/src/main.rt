@@ -4,7 +4,6 @@
 
 ghost use Rattle.std.specs.Prelude.{◌≤◌};
 
-use blocks::Rounded;
 use std::io;
 use std::io::Read;
 
@@ -56,10 +55,10 @@ fn put_number(rt: &impl Print, n: u64) -> io::Result<()> {
     rt.print(n)
 }
 
-fn put_class(rt: &impl Print, r: Rounded) -> io::Result<()> {
+fn put_class(rt: &impl Print, r: Option<u64>) -> io::Result<()> {
     match r {
-        Rounded::Class(k) => put_number(rt, k),
-        Rounded::Above => put(rt, b" above"),
+        Some(k) => put_number(rt, k),
+        None => put(rt, b" above"),
     }
 }
 

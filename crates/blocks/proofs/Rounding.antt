@@ -6,8 +6,7 @@ use lib.Count.{count_leading_zeros, count_trailing_zeros, leading_top, leading_l
 use borrow.Author.Tests.{lt-leb}
 use Rattle.blocks.specs.Blocks.{rounded, rounded_aligned, larger, prev_power_of_two, size_of, size_class}
 use Rattle.blocks.specs.Laws.{Least, Floor}
-use Rattle.blocks.specs.declared.Rounded.{Rounded}
-use Rattle.blocks.specs.declared.Rounded.TheVariants.{Class, Above}
+use Rattle.std.specs.Prelude.{Option, Some, None}
 use Rattle.blocks.proofs.Powers.{exp-le}
 use Rattle.blocks.proofs.Searches.{largest_is, first-is, first-none}
 
@@ -40,11 +39,11 @@ size-class k h = trailing-power 64 k h
 pub least-of : (count k : ℕ) → k ≤ 32 → count ≤ 2 ^ k → 2 ^ k ≤ 2 * (count - 1) + 1 → Least count k
 least-of count k s h n = record { small = s; holds = h; near = n; least = λ j l. exp-le k j (omega (arith, pow_pos j)) }
 
-pub class-is : (count k : ℕ) → Least count k → rounded count ≡ Class k
+pub class-is : (count k : ℕ) → Least count k → rounded count ≡ Some k
 unfolding rounded
 class-is count k l = first-is 33 0 count k (omega arith) (omega arith) l.holds l.least
 
-pub above-is : (count : ℕ) → 2 ^ 32 < count → rounded count ≡ Above
+pub above-is : (count : ℕ) → 2 ^ 32 < count → rounded count ≡ None
 unfolding rounded
 above-is count h = first-none 33 0 count (λ j l. let m : 2 ^ j ≤ 2 ^ 32 = pow_mono {i = j} {j = 32} (omega arith) in omega arith)
 
@@ -65,7 +64,7 @@ rounding count = go (dec_le count (2 ^ 32))
     go (no h) = inr (omega arith)
 
 -- what an answer of the rounding says of its count
-pub least-class : (count k : ℕ) → rounded count ≡ Class k → Least count k
+pub least-class : (count k : ℕ) → rounded count ≡ Some k → Least count k
 least-class count k e = ⊎_elim class above (rounding count)
   where
     class : ((j : ℕ) × Least count j) → Least count k
@@ -74,14 +73,14 @@ least-class count k e = ⊎_elim class above (rounding count)
     above : 2 ^ 32 < count → Least count k
     above h = let z : ◌≡◌ {A = ℕ} 0 1 = cc (above-is count h) in absurd (omega arith)
 
-pub beyond : (count : ℕ) → rounded count ≡ Above → 2 ^ 32 < count
+pub beyond : (count : ℕ) → rounded count ≡ None → 2 ^ 32 < count
 beyond count e = ⊎_elim class (λ h. h) (rounding count)
   where
     class : ((j : ℕ) × Least count j) → 2 ^ 32 < count
     class (j, l) = let z : ◌≡◌ {A = ℕ} 0 1 = cc (class-is count j l) in absurd (omega arith)
 
 -- a power of two rounds to its own class
-pub class-of-power : (k : ℕ) → k ≤ 32 → rounded (2 ^ k) ≡ Class k
+pub class-of-power : (k : ℕ) → k ≤ 32 → rounded (2 ^ k) ≡ Some k
 class-of-power k h = class-is (2 ^ k) k (least-of (2 ^ k) k h (omega arith) (omega (arith, pow_pos k)))
 
 -- ---- aligned requests: the larger of two roundings is the rounding of the larger
@@ -92,15 +91,15 @@ larger-is a b h = go (rounding a) (rounding b)
     go : ((j : ℕ) × Least a j) ⊎ (2 ^ 32 < a) → ((k : ℕ) × Least b k) ⊎ (2 ^ 32 < b) → larger (rounded a) (rounded b) ≡ rounded b
     go (inl (j, l)) (inl (k, m)) =
         let g : j ≤ k = l.least k (omega (arith, m.holds)) in
-        rw (class-is a j l, class-is b k m) (ap Class (max-eq_right g))
+        rw (class-is a j l, class-is b k m) (ap Some (max-eq_right g))
     go (inl (j, l)) (inr m) = rw (class-is a j l, above-is b m)
     go (inr l) m = let n : 2 ^ 32 < b = omega arith in rw (above-is a l, above-is b n)
 
-pub larger-comm : (x y : Rounded) → larger x y ≡ larger y x
-larger-comm (Class j) (Class k) = ap Class (max_comm j k)
-larger-comm (Class j) Above = refl
-larger-comm Above (Class k) = refl
-larger-comm Above Above = refl
+pub larger-comm : (x y : Option ℕ) → larger x y ≡ larger y x
+larger-comm (Some j) (Some k) = ap Some (max_comm j k)
+larger-comm (Some j) None = refl
+larger-comm None (Some k) = refl
+larger-comm None None = refl
 
 -- an aligned request is rounded as the larger of its size and its alignment
 pub aligned-is : (size align : ℕ) → rounded_aligned size align ≡ rounded (max size align)

@@ -2,7 +2,7 @@
 use Rattle.std.proofs.Common.{◌≡◌, ℕ, zero, suc, ◌+◌, ◌^◌, ◌<◌, ◌≤◌, Bool, true, false, leb, ◌⊎◌, sym, refl, ap, ◌∙◌, inl, inr, true≢false, le_of_suc-le-suc, eq-or-lt_of_le, arith, leb-false, leb-true}
 use borrow.Author.Tests.{lt-leb}
 use Rattle.blocks.specs.Blocks.{largest_power, first_holding}
-use Rattle.blocks.specs.declared.Rounded.TheVariants.{Class, Above}
+use Rattle.std.specs.Prelude.{Some, None}
 
 -- a power that passes, above which none does, is the largest that passes
 pub largest_is : (passes : ℕ → Bool) (w k : ℕ) → k < w → passes (2 ^ k) ≡ true → ((j : ℕ) → j < w → passes (2 ^ j) ≡ true → j ≤ k)
@@ -23,19 +23,19 @@ largest-none passes zero n = refl
 largest-none passes (suc w) n = rw (n w (omega arith), largest_power) (largest-none passes w (λ j l. n j (omega arith)))
 
 -- the class that holds the count, below which none does, is the first that holds it
-pub first-is : (tries i count k : ℕ) → i ≤ k → k < i + tries → count ≤ 2 ^ k → ((j : ℕ) → count ≤ 2 ^ j → k ≤ j) → first_holding tries i count ≡ Class k
+pub first-is : (tries i count k : ℕ) → i ≤ k → k < i + tries → count ≤ 2 ^ k → ((j : ℕ) → count ≤ 2 ^ j → k ≤ j) → first_holding tries i count ≡ Some k
 unfolding first_holding
 first-is zero i count k l h c least = absurd (omega arith)
 first-is (suc tries) i count k l h c least =
     go (leb count (2 ^ i)) refl (eq-or-lt_of_le l) (λ m. first-is tries (suc i) count k m (omega arith) c least)
   where
-    go : (b : Bool) → leb count (2 ^ i) ≡ b → (i ≡ k) ⊎ (i < k) → (i < k → first_holding tries (suc i) count ≡ Class k) → first_holding (suc tries) i count ≡ Class k
-    go true e m ih = let g : k ≤ i = least i (leb-true count (2 ^ i) e) in let s : i ≡ k = omega arith in rw (e, first_holding) (ap Class s)
+    go : (b : Bool) → leb count (2 ^ i) ≡ b → (i ≡ k) ⊎ (i < k) → (i < k → first_holding tries (suc i) count ≡ Some k) → first_holding (suc tries) i count ≡ Some k
+    go true e m ih = let g : k ≤ i = least i (leb-true count (2 ^ i) e) in let s : i ≡ k = omega arith in rw (e, first_holding) (ap Some s)
     go false e (inr m) ih = rw (e, first_holding) (ih m)
     go false e (inl s) ih = absurd (omega (arith, leb-false count (2 ^ i) e, ap (λ (x : ℕ). 2 ^ x) s))
 
 -- a count that no class holds finds none
-pub first-none : (tries i count : ℕ) → ((j : ℕ) → j < i + tries → 2 ^ j < count) → first_holding tries i count ≡ Above
+pub first-none : (tries i count : ℕ) → ((j : ℕ) → j < i + tries → 2 ^ j < count) → first_holding tries i count ≡ None
 unfolding first_holding
 first-none zero i count n = refl
 first-none (suc tries) i count n = rw (lt-leb count (2 ^ i) (n i (omega arith)), first_holding) (first-none tries (suc i) count (λ j l. n j (omega arith)))

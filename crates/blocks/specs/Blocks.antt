@@ -1,8 +1,7 @@
 -- The arithmetic of blocks, from docs/RULES.md, "Blocks of frames". The promises of src/lib.rt cite these definitions.
 use Rattle.std.specs.Prelude.{ℕ, zero, suc, ◌+◌, ◌-◌, ◌/◌, ◌%◌, ◌^◌, min, max, Bool, true, false, leb, ◌==◌, nat_eq, nat_le, nat_lt}
 use Rattle.std.specs.Int.Count.{count_trailing_zeros}
-use Rattle.blocks.specs.declared.Rounded.{Rounded}
-use Rattle.blocks.specs.declared.Rounded.TheVariants.{Class, Above}
+use Rattle.std.specs.Prelude.{Option, Some, None}
 
 -- "The 33 block sizes stand in a fixed table": 2 ^ class for the classes 0 to 32. A class above has no blocks, and its size is 0
 unfoldable pub size_of : ℕ → ℕ
@@ -13,22 +12,22 @@ unfoldable pub size_class : ℕ → ℕ
 size_class size = count_trailing_zeros 64 size
 
 -- the first class that holds the count, among k and the classes after it, as many as there are tries
-unfoldable pub first_holding : ℕ → ℕ → ℕ → Rounded
-first_holding zero k count = Above
-first_holding (suc tries) k count = elim (nat_le count (2 ^ k)) [ true ↦ Class k | false ↦ first_holding tries (suc k) count ]
+unfoldable pub first_holding : ℕ → ℕ → ℕ → Option ℕ
+first_holding zero k count = None
+first_holding (suc tries) k count = elim (nat_le count (2 ^ k)) [ true ↦ Some k | false ↦ first_holding tries (suc k) count ]
 
--- "Rounding takes a count to the least power of two not below it, and 0 to 1": its class, of the 33, or Above
-unfoldable pub rounded : ℕ → Rounded
+-- "Rounding takes a count to the least power of two not below it, and 0 to 1": its class, of the 33, or None
+unfoldable pub rounded : ℕ → Option ℕ
 rounded count = first_holding 33 0 count
 
--- the larger of two classes, where Above is larger than each
-abbrev pub larger : Rounded → Rounded → Rounded
-larger (Class j) (Class k) = Class (max j k)
-larger (Class j) Above = Above
-larger Above r = Above
+-- the larger of two classes, where None is larger than each
+abbrev pub larger : Option ℕ → Option ℕ → Option ℕ
+larger (Some j) (Some k) = Some (max j k)
+larger (Some j) None = None
+larger None r = None
 
 -- "Aligned requests take the larger of the rounded count and the alignment"; an alignment that is no power of two is rounded as well
-unfoldable pub rounded_aligned : ℕ → ℕ → Rounded
+unfoldable pub rounded_aligned : ℕ → ℕ → Option ℕ
 rounded_aligned size align = larger (rounded size) (rounded align)
 
 -- the largest of 2 ^ (w - 1), .., 4, 2, 1 that passes a test, and 0 where none does

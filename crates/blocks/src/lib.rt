@@ -3,15 +3,8 @@
 
 #![tactic(auto)]
 
-ghost use Rattle.std.specs.Prelude.{◌≡◌, min};
+ghost use Rattle.std.specs.Prelude.{◌≡◌};
 ghost use Rattle.blocks.specs.Blocks.{size_of, size_class, prev_power_of_two, rounded, rounded_aligned, is_power_of_two, lowest_bit, buddy_of, piece_size};
-
-// What a count is rounded to: the class of the least block that holds it, or Above for a count above 2^32.
-#[derive(Clone, Copy)]
-pub enum Rounded {
-    Class(u64),
-    Above,
-}
 
 // The 33 block sizes. Their rule is proved once over all entries, in proofs/size_of.
 const SIZES: [u64; 33] = [
@@ -38,31 +31,31 @@ pub fn prev_power_of_two(num: u64) -> u64
     if num == 0 {
         return 0;
     }
-    1u64 << (63 - u64::leading_zeros(num))
+    1u64 << (63 - num.leading_zeros())
 }
 
 // The class of a size that is a power of two.
 pub fn class_of(size: u64) -> u64
     ensures { result ≡ size_class size }
 {
-    u64::trailing_zeros(size) as u64
+    u64::from(size.trailing_zeros())
 }
 
-// The class that a count is rounded to: 0 and 1 to class 0.
-pub fn round(count: u64) -> Rounded
+// The class that a count is rounded to, that of the least block which holds it: 0 and 1 to class 0; None for a count above 2^32.
+pub fn round(count: u64) -> Option<u64>
     ensures { result ≡ rounded count }
 {
     if size_of(32) < count {
-        return Rounded::Above;
+        return None;
     }
     if count == 0 {
-        return Rounded::Class(0);
+        return Some(0);
     }
-    Rounded::Class((64 - u64::leading_zeros(count - 1)) as u64)
+    Some(u64::from(64 - (count - 1).leading_zeros()))
 }
 
 // The class of an aligned request: the larger of the rounded size and the alignment.
-pub fn round_aligned(size: u64, align: u64) -> Rounded
+pub fn round_aligned(size: u64, align: u64) -> Option<u64>
     ensures { result ≡ rounded_aligned size align }
 {
     if size < align {
@@ -71,7 +64,7 @@ pub fn round_aligned(size: u64, align: u64) -> Rounded
     round(size)
 }
 
-// Whether num is one of 1, 2, 4, .., 2^63.
+// Whether num is one of 1, 2, 4, .., 2^63. By a mask, since the library counts the ones, which not every machine does at once.
 pub fn is_power_of_two(num: u64) -> bool
     ensures { result ≡ is_power_of_two num }
 {
@@ -85,7 +78,7 @@ pub fn is_power_of_two(num: u64) -> bool
 pub fn lowest_bit(start: u64) -> u64
     ensures { result ≡ lowest_bit start }
 {
-    std::num::wrapping_sub_u64(0, start) & start
+    start.wrapping_neg() & start
 }
 
 // The block beside the one at start: start with its bit class flipped. A class above 32 has no blocks, and leaves start.
@@ -100,17 +93,9 @@ pub fn buddy(start: u64, class: u64) -> u64
 pub fn piece(start: u64, left: u64, top: u64) -> u64
     ensures { result ≡ piece_size top start left }
 {
-    let most = size_of(top);
-    let within = least(prev_power_of_two(left), most);
+    let within = prev_power_of_two(left).min(size_of(top));
     if start == 0 {
         return within;
     }
-    least(lowest_bit(start), within)
-}
-
-// The smaller of two numbers.
-pub fn least(a: u64, b: u64) -> u64
-    ensures { result ≡ min a b }
-{
-    if a < b { a } else { b }
+    lowest_bit(start).min(within)
 }

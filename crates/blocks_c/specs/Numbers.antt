@@ -1,12 +1,11 @@
 -- What crosses to C and Rust as a number.
 use Rattle.std.specs.Prelude.{Bool, true, false, ℕ}
-use Rattle.blocks.specs.declared.Rounded.{Rounded}
-use Rattle.blocks.specs.declared.Rounded.TheVariants.{Class, Above}
+use Rattle.std.specs.Prelude.{Option, Some, None}
 
--- a class as itself, and Above as 64
-abbrev pub class_number : Rounded → ℕ
-class_number (Class k) = k
-class_number Above = 64
+-- a class as itself, and None as 64
+abbrev pub class_number : Option ℕ → ℕ
+class_number (Some k) = k
+class_number None = 64
 
 -- yes as 1, and no as 0
 abbrev pub flag : Bool → ℕ

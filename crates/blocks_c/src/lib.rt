@@ -6,7 +6,6 @@ ghost use Rattle.std.specs.Prelude.{◌≡◌};
 ghost use Rattle.blocks.specs.Blocks.{size_of, size_class, prev_power_of_two, rounded, rounded_aligned, is_power_of_two, lowest_bit, buddy_of, piece_size};
 ghost use Rattle.blocks_c.specs.Numbers.{class_number, flag};
 
-use blocks::Rounded;
 
 #[unsafe(no_mangle)]
 pub extern "C" fn lavikety_blocks_size_of(class: u64) -> u64
@@ -30,12 +29,12 @@ pub extern "C" fn lavikety_blocks_prev_power_of_two(num: u64) -> u64
 }
 
 // A class as a number: 64 stands for Above.
-fn class_number(r: Rounded) -> u64
+fn class_number(r: Option<u64>) -> u64
     ensures { result ≡ class_number r }
 {
     match r {
-        Rounded::Class(k) => k,
-        Rounded::Above => 64,
+        Some(k) => k,
+        None => 64,
     }
 }
 

@@ -4,14 +4,12 @@ use mathlib.Core.Path.{◌≡◌, refl, sym, ap, ap₂, ◌∙◌}
 use mathlib.Core.List.{List, [], ◌∷◌}
 use Prim.Native.Nat.{ℕ}
 use lib.ListN.{get_or}
-use Rattle.answers.specs.declared.Answer.{Answer}
-use Rattle.answers.specs.declared.Answer.TheVariants as answer
+use Rattle.answers.specs.Paper.{Answer}
+use Rattle.std.specs.Prelude.{Ok, Err}
 use Rattle.answers.proofs.Apart.{answer_of, back, tells-apart}
 use Rattle.frame_core.specs.Carried.{Reply, Outcome, reply_of, Says}
-use Rattle.frame.specs.declared.Report.{Report}
-use Rattle.frame.specs.declared.Report.TheVariants.{Of, Refused}
 use Rattle.frame.specs.Outcome.{Call}
-use Rattle.frame.specs.Told.{reply_of_report, Summed, replies, last, Chain, done, call}
+use Rattle.frame.specs.Told.{Report, reply_of_report, Summed, replies, last, Chain, done, call}
 
 pub chain-is : {cs : List Call} {before after : List ℕ} {rs : List Reply} → Chain cs before rs after → (rs ≡ replies cs before) × (after ≡ last cs before)
 chain-is done = (refl, refl)
@@ -30,15 +28,15 @@ one-outcome o a b after other s t = (same-reply a b (s.reply ∙ sym t.reply), s
 
 -- the report that a reply stands for: the way back from paper
 abbrev report_from : List ℕ → Answer → Report
-report_from vs (answer.Done v) = Of (record { granted = get_or vs 0 0; managed = get_or vs 1 0; largest = get_or vs 2 0 })
-report_from vs (answer.Refused r) = Refused r
+report_from vs (Ok v) = Ok (record { granted = get_or vs 0 0; managed = get_or vs 1 0; largest = get_or vs 2 0 })
+report_from vs (Err r) = Err r
 
 abbrev report_of : Reply → Report
 report_of r = report_from r.values (answer_of r.number 0)
 
 report-back : (s : Report) → report_of (reply_of_report s) ≡ s
-report-back (Of f) = refl
-report-back (Refused r) = ap (report_from (0 ∷ 0 ∷ 0 ∷ [])) (back (answer.Refused r))
+report-back (Ok f) = refl
+report-back (Err r) = ap (report_from (0 ∷ 0 ∷ 0 ∷ [])) (back (Err r))
 
 pub one-report : (ws : List ℕ) (s t : Report) → Summed ws s → Summed ws t → s ≡ t
 one-report ws s t a b = sym (report-back s) ∙ ap report_of (a.reply ∙ sym b.reply) ∙ report-back t

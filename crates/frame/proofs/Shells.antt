@@ -6,7 +6,7 @@ use mathlib.Core.Logic.{◌⊎◌, inl, inr}
 use Prim.Native.Nat.{ℕ, ◌-◌, ◌^◌, ◌≤◌, ◌<◌, max}
 use native.Mathlib.Omega.{arith}
 use lib.ListN.{length, get_or}
-use Rattle.answers.specs.declared.Answer.TheVariants.{Refused}
+use Rattle.std.specs.Prelude.{Err}
 use Rattle.answers.specs.declared.Refusal.TheVariants.{BadState, BadAlign}
 use Rattle.blocks.specs.Blocks.{rounded, rounded_aligned, is_power_of_two}
 use Rattle.blocks.specs.Laws.{Least}
@@ -36,17 +36,17 @@ module _ (ws : List ℕ) where
   decided d r after = Says (carried (0 ∷ []) ws d) r after
 
   -- a table that is not sound
-  pub unsound : (call : Call) → zeros call ≡ 0 ∷ [] → soundb ws ≡ false → Says (outcome call ws) (reply_of (Refused BadState)) ws
+  pub unsound : (call : Call) → zeros call ≡ 0 ∷ [] → soundb ws ≡ false → Says (outcome call ws) (reply_of (Err BadState)) ws
   unfolding outcome
   unsound call z e = rw (e, outcome, z) (record { reply = refl; words = refl })
 
   module _ (sound : soundb ws ≡ true) where
     -- an alignment that is no power of two
-    pub bad-align : (n a : ℕ) → is_power_of_two a ≡ false → Says (outcome (AllocAligned n a) ws) (reply_of (Refused BadAlign)) ws
+    pub bad-align : (n a : ℕ) → is_power_of_two a ≡ false → Says (outcome (AllocAligned n a) ws) (reply_of (Err BadAlign)) ws
     unfolding outcome decide
     bad-align n a p = rw (sound, outcome, p) (record { reply = refl; words = refl })
 
-    pub bad-align-release : (s n a : ℕ) → is_power_of_two a ≡ false → Says (outcome (DeallocAligned s n a) ws) (reply_of (Refused BadAlign)) ws
+    pub bad-align-release : (s n a : ℕ) → is_power_of_two a ≡ false → Says (outcome (DeallocAligned s n a) ws) (reply_of (Err BadAlign)) ws
     unfolding outcome decide
     bad-align-release s n a p = rw (sound, outcome, p) (record { reply = refl; words = refl })
 

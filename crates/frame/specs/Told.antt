@@ -1,9 +1,8 @@
 -- What the promises of the calls say: the answer and every lent word afterwards are the outcome's.
-use Rattle.std.specs.Prelude.{List, [], ◌∷◌, ℕ}
-use Rattle.answers.specs.declared.Answer.{Answer}
-use Rattle.answers.specs.Paper.{number_of}
-use Rattle.frame.specs.declared.Report.{Report}
-use Rattle.frame.specs.declared.Report.TheVariants.{Of, Refused}
+use Rattle.std.specs.Prelude.{List, [], ◌∷◌, ℕ, Result, Ok, Err}
+use Rattle.answers.specs.declared.Refusal.{Refusal}
+use Rattle.answers.specs.Paper.{Answer, number_of}
+use Rattle.frame_core.specs.declared.Figures.{Figures}
 use Rattle.frame.specs.Outcome.{Call, Summary, outcome, making}
 use Rattle.frame_core.specs.Carried.{Reply, reply_of, Says}
 
@@ -15,10 +14,14 @@ Told call before a after = Says (outcome call before) (reply_of a) after
 abbrev pub Made : ℕ → List ℕ → Answer → List ℕ → Type 0
 Made order before a after = Says (making order before) (reply_of a) after
 
--- what a summary answers, on paper: its number, and its three figures
+-- what a summary answers: its figures, or a refusal
+abbrev pub Report : Type 0
+Report = Result Figures Refusal
+
+-- the same on paper: its number, and its three figures
 abbrev pub reply_of_report : Report → Reply
-reply_of_report (Of f) = record { number = 0; values = f.granted ∷ f.managed ∷ f.largest ∷ [] }
-reply_of_report (Refused r) = record { number = number_of r; values = 0 ∷ 0 ∷ 0 ∷ [] }
+reply_of_report (Ok f) = record { number = 0; values = f.granted ∷ f.managed ∷ f.largest ∷ [] }
+reply_of_report (Err r) = record { number = number_of r; values = 0 ∷ 0 ∷ 0 ∷ [] }
 
 -- of a summary, which is lent the words to read alone
 abbrev pub Summed : List ℕ → Report → Type 0

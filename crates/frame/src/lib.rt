@@ -11,31 +11,27 @@ use answers::{Answer, Refusal};
 use frame_core::Figures;
 
 // What a summary answers.
-#[derive(Clone, Copy)]
-pub enum Report {
-    Of(Figures),
-    Refused(Refusal),
-}
+pub type Report = Result<Figures, Refusal>;
 
 // Makes an empty table of the ORDER over the lent words, whatever they hold.
 pub fn new(t: &mut [u64], order: u64) -> Answer
     ensures { Made order t.old result t.new }
 {
     if order < 1 {
-        return Answer::Refused(Refusal::BadOrder);
+        return Err(Refusal::BadOrder);
     }
     if 33 < order {
-        return Answer::Refused(Refusal::BadOrder);
+        return Err(Refusal::BadOrder);
     }
     if t.len() < 1 {
-        return Answer::Refused(Refusal::BadSize);
+        return Err(Refusal::BadSize);
     }
     if 65536 < t.len() {
-        return Answer::Refused(Refusal::BadSize);
+        return Err(Refusal::BadSize);
     }
     words::clear(t);
     t[0] = table::head_word(order, 0);
-    Answer::Done(0)
+    Ok(0)
 }
 
 // Adds the frames [start, end).
@@ -43,7 +39,7 @@ pub fn add_frame(t: &mut [u64], start: u64, end: u64) -> Answer
     ensures { Told (Add start end) t.old result t.new }
 {
     if !table_scan::sound(t) {
-        return Answer::Refused(Refusal::BadState);
+        return Err(Refusal::BadState);
     }
     frame_add::add_range(t, start, end)
 }
@@ -60,7 +56,7 @@ pub fn alloc(t: &mut [u64], count: u64) -> Answer
     ensures { Told (Alloc count) t.old result t.new }
 {
     if !table_scan::sound(t) {
-        return Answer::Refused(Refusal::BadState);
+        return Err(Refusal::BadState);
     }
     frame_grant::grant_block(t, blocks::round(count))
 }
@@ -70,7 +66,7 @@ pub fn alloc_at(t: &mut [u64], start: u64, count: u64) -> Answer
     ensures { Told (AllocAt start count) t.old result t.new }
 {
     if !table_scan::sound(t) {
-        return Answer::Refused(Refusal::BadState);
+        return Err(Refusal::BadState);
     }
     frame_grant::grant_run(t, start, blocks::round(count))
 }
@@ -80,7 +76,7 @@ pub fn dealloc(t: &mut [u64], start: u64, count: u64) -> Answer
     ensures { Told (Dealloc start count) t.old result t.new }
 {
     if !table_scan::sound(t) {
-        return Answer::Refused(Refusal::BadState);
+        return Err(Refusal::BadState);
     }
     frame_release::release_block(t, start, blocks::round(count))
 }
@@ -90,10 +86,10 @@ pub fn alloc_aligned(t: &mut [u64], size: u64, align: u64) -> Answer
     ensures { Told (AllocAligned size align) t.old result t.new }
 {
     if !table_scan::sound(t) {
-        return Answer::Refused(Refusal::BadState);
+        return Err(Refusal::BadState);
     }
     if !blocks::is_power_of_two(align) {
-        return Answer::Refused(Refusal::BadAlign);
+        return Err(Refusal::BadAlign);
     }
     frame_grant::grant_block(t, blocks::round_aligned(size, align))
 }
@@ -103,10 +99,10 @@ pub fn dealloc_aligned(t: &mut [u64], start: u64, size: u64, align: u64) -> Answ
     ensures { Told (DeallocAligned start size align) t.old result t.new }
 {
     if !table_scan::sound(t) {
-        return Answer::Refused(Refusal::BadState);
+        return Err(Refusal::BadState);
     }
     if !blocks::is_power_of_two(align) {
-        return Answer::Refused(Refusal::BadAlign);
+        return Err(Refusal::BadAlign);
     }
     frame_release::release_block(t, start, blocks::round_aligned(size, align))
 }
@@ -116,7 +112,7 @@ pub fn summary(t: &[u64]) -> Report
     ensures { Summed t.now result }
 {
     if !table_scan::sound(t) {
-        return Report::Refused(Refusal::BadState);
+        return Err(Refusal::BadState);
     }
-    Report::Of(frame_core::count_frames(t))
+    Ok(frame_core::count_frames(t))
 }

@@ -7,7 +7,7 @@ use native.Mathlib.Omega.{arith}
 use lib.ListN.{length, take, drop, get_or, set}
 use lib.Pow.{pow_pos}
 use borrow.Author.Tests.{lt-ltb, le-ltb}
-use Rattle.answers.specs.declared.Answer.TheVariants.{Done, Refused}
+use Rattle.std.specs.Prelude.{Ok, Err}
 use Rattle.answers.specs.declared.Refusal.TheVariants.{NoRoom}
 use Rattle.answers.specs.Judging.{judge}
 use Rattle.blocks.specs.Blocks.{piece_size, size_class}
@@ -125,7 +125,7 @@ module _
         omega (arith, length-replaced i i (new order s e) (blocks_of ws) (omega arith) (omega arith))
 
     module _ {more : ℕ} (m : more ≡ min (length (new order s e)) (length ws - 1 - count + 1)) where
-      pub refuses : length ws - 1 - count < more → Placed ws s e (Refused NoRoom) ws
+      pub refuses : length ws - 1 - count < more → Placed ws s e (Err NoRoom) ws
       refuses h =
           let b = bounds in
           let l = length-after in
@@ -133,7 +133,7 @@ module _
 
       pub places : (word : ℕ) (moved run : List ℕ) → more ≤ length ws - 1 - count → ((k : ℕ) → get_or ws k 0 < 2 ^ 64)
           → moved ≡ take (i + 1 + more) ws ++ pad (length ws - (i + 1 + more)) (drop (i + 1) ws) → run ≡ to_write (order - 1) moved (i + 1) s (e - s)
-          → ((st : State) → st.order ≡ order % 64 → length st.blocks ≡ (count + more) % 65536 → word ≡ head_of st) → Placed ws s e (Done 0) (set run 0 word)
+          → ((st : State) → st.order ≡ order % 64 → length st.blocks ≡ (count + more) % 65536 → word ≡ head_of st) → Placed ws s e (Ok 0) (set run 0 word)
       places word moved run h f u v w =
           let b = bounds in
           let l = length-after in

@@ -7,7 +7,7 @@ use native.Mathlib.Omega.{arith}
 use lib.Dec.{leb, ltb}
 use lib.ListN.{length, get_or, drop}
 use borrow.Author.Tests.{leb-true, leb-false, ltb-true, ltb-false, lt-ltb, le-ltb}
-use Rattle.answers.specs.declared.Answer.TheVariants.{Done, Refused}
+use Rattle.std.specs.Prelude.{Ok, Err}
 use Rattle.answers.specs.declared.Refusal.TheVariants.{BadRange, Overlap}
 use Rattle.rules.specs.Rules.{Block, some, overlaps, added, cut, cut_from, place_of}
 use Rattle.rules.specs.declared.Place.TheVariants.{Inside, Gap}
@@ -36,21 +36,21 @@ module _ (ws : List ℕ) (sound : soundb ws ≡ true) (s e : ℕ) where
   abbrev Says-of : Reply → List ℕ → Type 0
   Says-of r after = Says (carried (0 ∷ []) ws (adding s e (order_of (get_or ws 0 0)) (length ws - 1) (blocks_of ws))) r after
 
-  pub backward : e < s → Says-of (reply_of (Refused BadRange)) ws
+  pub backward : e < s → Says-of (reply_of (Err BadRange)) ws
   unfolding adding
   backward h = rw (lt-ltb e s h) (record { reply = refl; words = refl })
 
   module _ (h : s ≤ e) where
-    pub too_far : 2 ^ 32 < e → Says-of (reply_of (Refused BadRange)) ws
+    pub too_far : 2 ^ 32 < e → Says-of (reply_of (Err BadRange)) ws
     unfolding adding
     too_far l = rw (le-ltb e s h, lt-ltb (2 ^ 32) e l) (record { reply = refl; words = refl })
 
     module _ (l : e ≤ 2 ^ 32) where
-      overlapping : some (overlaps s e) (blocks_of ws) ≡ true → Says-of (reply_of (Refused Overlap)) ws
+      overlapping : some (overlaps s e) (blocks_of ws) ≡ true → Says-of (reply_of (Err Overlap)) ws
       unfolding adding
       overlapping o = rw (le-ltb e s h, le-ltb (2 ^ 32) e l, o) (record { reply = refl; words = refl })
 
-      pub in_block : (i : ℕ) → place_of s (blocks_of ws) ≡ Inside i → s < e → Says-of (reply_of (Refused Overlap)) ws
+      pub in_block : (i : ℕ) → place_of s (blocks_of ws) ≡ Inside i → s < e → Says-of (reply_of (Err Overlap)) ws
       in_block i p g = overlapping (overlaps-inside s e i (blocks_of ws) (inside_is s i (blocks_of ws) (sound-blocks ws sound) p) g)
 
       module _ (i : ℕ) (p : place_of s (blocks_of ws) ≡ Gap i) where
@@ -62,7 +62,7 @@ module _ (ws : List ℕ) (sound : soundb ws ≡ true) (s e : ℕ) where
         in_place true q r = absurd (true≢false (sym r))
         in_place false q r = (leb-false (count_of (get_or ws 0 0)) i q, ltb-true (start_of (get_or ws (i + 1) 0)) e r)
 
-        pub meets-next : starts_before ws i e ≡ true → s < e → Says-of (reply_of (Refused Overlap)) ws
+        pub meets-next : starts_before ws i e ≡ true → s < e → Says-of (reply_of (Err Overlap)) ws
         unfolding starts_before
         meets-next q g =
             let w = in_place (leb (count_of (get_or ws 0 0)) i) refl q in
@@ -92,7 +92,7 @@ module _ (ws : List ℕ) (sound : soundb ws ≡ true) (s e : ℕ) where
 
 -- an empty range is accepted and adds nothing
 pub empty : (ws : List ℕ) → soundb ws ≡ true → (s e : ℕ) → s ≡ e → e ≤ 2 ^ 32 → ((j : ℕ) → get_or ws j 0 < 2 ^ 64)
-    → Says (carried (0 ∷ []) ws (adding s e (order_of (get_or ws 0 0)) (length ws - 1) (blocks_of ws))) (reply_of (Done 0)) ws
+    → Says (carried (0 ∷ []) ws (adding s e (order_of (get_or ws 0 0)) (length ws - 1) (blocks_of ws))) (reply_of (Ok 0)) ws
 unfolding adding
 empty ws sound s e q l below =
     let f = sound-fact ws sound in

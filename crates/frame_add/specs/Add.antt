@@ -1,6 +1,6 @@
 -- What src/add.rt asks of a range and of its place, and what it decides there. Internal to it.
 use Rattle.std.specs.Prelude.{◌≡◌, Bool, true, not, ◌&&◌, List, [], ◌∷◌, ℕ, ◌+◌, ◌-◌, ◌^◌, ◌≤◌, leb, ltb, length, get_or, drop}
-use Rattle.answers.specs.declared.Answer.{Answer}
+use Rattle.answers.specs.Paper.{Answer}
 use Rattle.answers.specs.Judging.{done, judge}
 use Rattle.rules.specs.Rules.{Block, added}
 use Rattle.rules.proofs.Lists.{Above}

@@ -25,13 +25,13 @@ fn add_at(t: &mut [u64], i: usize, start: u64, end: u64) -> Answer
     let more = pieces(start, n, top, room);
     // before any word is written, since a refused call changes none
     if room < more {
-        return Answer::Refused(Refusal::NoRoom);
+        return Err(Refusal::NoRoom);
     }
     let at = i + 1;
     words::move_tail(t, at, at + more, count + 1);
     write_pieces(t, at, start, n, top);
     t[0] = table::head_word(order, (count + more) as u64);
-    Answer::Done(0)
+    Ok(0)
 }
 
 // How many pieces n frames from start on are cut into, counted no further than one past `most`: a range may have 2^32 pieces.
@@ -88,20 +88,20 @@ pub fn add_range(t: &mut [u64], start: u64, end: u64) -> Answer
     ensures { Says (carried (0 ∷ []) t.old (adding start end (order_of (get_or t.old 0 0)) (length t.old - 1) (blocks_of t.old))) (reply_of result) t.new }
 {
     if end < start {
-        return Answer::Refused(Refusal::BadRange);
+        return Err(Refusal::BadRange);
     }
     if 0x1_0000_0000 < end {
-        return Answer::Refused(Refusal::BadRange);
+        return Err(Refusal::BadRange);
     }
     // an empty range is accepted anywhere, inside a block too
     if start == end {
-        return Answer::Done(0);
+        return Ok(0);
     }
     let Place::Gap(i) = table::place(t, start) else {
-        return Answer::Refused(Refusal::Overlap);
+        return Err(Refusal::Overlap);
     };
     if starts_before(t, i, end) {
-        return Answer::Refused(Refusal::Overlap);
+        return Err(Refusal::Overlap);
     }
     add_at(t, i, start, end)
 }

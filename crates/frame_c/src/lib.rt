@@ -8,7 +8,6 @@ ghost use Rattle.frame.specs.Outcome.{Add, Alloc, AllocAligned, AllocAt, Dealloc
 ghost use Rattle.frame_c.specs.Crossed.{Crossed, CrossedFigures};
 
 use answers_c::{CAnswer, numbers};
-use frame::Report;
 
 #[unsafe(no_mangle)]
 pub extern "C" fn lavikety_frame_new(t: &mut [u64], order: u64) -> CAnswer
@@ -69,13 +68,13 @@ pub extern "C" fn lavikety_frame_summary(t: &[u64], figures: &mut [u64; 3]) -> u
     ensures { CrossedFigures (outcome Summary t.now) result figures.new t.now }
 {
     match frame::summary(t) {
-        Report::Of(f) => {
+        Ok(f) => {
             *figures = [f.granted, f.managed, f.largest];
             0
         }
-        Report::Refused(refusal) => {
+        Err(refusal) => {
             *figures = [0, 0, 0];
-            answers::refusal_number(refusal)
+            u64::from(refusal)
         }
     }
 }

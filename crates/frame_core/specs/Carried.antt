@@ -1,6 +1,6 @@
 -- What a decision over blocks is over words: the reply, and the words that the table is left with. From docs/RULES.md, "Refusal numbers".
 use Rattle.std.specs.Prelude.{◌≡◌, ℕ, List, [], ◌∷◌, length}
-use Rattle.answers.specs.declared.Answer.{Answer}
+use Rattle.answers.specs.Paper.{Answer}
 use Rattle.answers.specs.Paper.{paper, number_of}
 use Rattle.answers.specs.Judging.{refused, done}
 use Rattle.table.specs.Layout.{state_of, words_of}

@@ -3,8 +3,7 @@ use Rattle.std.specs.Prelude.{ℕ, List, length, nat_lt}
 use Rattle.answers.specs.declared.Refusal.TheVariants.{NoRoom}
 use Rattle.answers.specs.Judging as judging
 use Rattle.answers.specs.Judging.{Check, refuse}
-use Rattle.blocks.specs.declared.Rounded.{Rounded}
-use Rattle.blocks.specs.declared.Rounded.TheVariants.{Class, Above}
+use Rattle.std.specs.Prelude.{Option, Some, None}
 use Rattle.rules.specs.Rules.{Block}
 
 -- what a call decides over blocks: a refusal, or what it answers and the blocks afterwards
@@ -12,9 +11,9 @@ abbrev pub Decision : Type 0
 Decision = judging.Decision (List ℕ) (List Block)
 
 -- the class that is asked for; 33, a class of no table, where the rounded count is above every block
-abbrev pub wanted : Rounded → ℕ
-wanted (Class k) = k
-wanted Above = 33
+abbrev pub wanted : Option ℕ → ℕ
+wanted (Some k) = k
+wanted None = 33
 
 -- "NO_ROOM: blocks after the call would exceed the capacity"
 abbrev pub no_room : ℕ → List Block → Check

@@ -6,7 +6,7 @@ use Prim.Native.Nat.{ℕ, suc, ◌+◌, ◌-◌, ◌≤◌, ◌<◌}
 use native.Mathlib.Omega.{arith}
 use lib.ListN.{length, get_or}
 use borrow.Author.Tests.{le-leb, lt-leb}
-use Rattle.answers.specs.declared.Answer.TheVariants.{Refused}
+use Rattle.std.specs.Prelude.{Err}
 use Rattle.answers.specs.declared.Refusal.TheVariants.{NoBlock}
 use Rattle.answers.specs.Judging.{refused}
 use Rattle.rules.specs.Rules.{start, block_at, smallest, serving}
@@ -25,12 +25,12 @@ use Rattle.frame_grant.specs.Granting.{granting}
 
 module _ (ws : List ℕ) (sound : soundb ws ≡ true) (c : ℕ) where
   stops : granting c (order_of (get_or ws 0 0)) (length ws - 1) (blocks_of ws) ≡ refused NoBlock
-      → Says (carried (0 ∷ []) ws (granting c (order_of (get_or ws 0 0)) (length ws - 1) (blocks_of ws))) (reply_of (Refused NoBlock)) ws
+      → Says (carried (0 ∷ []) ws (granting c (order_of (get_or ws 0 0)) (length ws - 1) (blocks_of ws))) (reply_of (Err NoBlock)) ws
   stops e = says-refused ws (granting c (order_of (get_or ws 0 0)) (length ws - 1) (blocks_of ws)) NoBlock e
 
   -- larger than the top block
   pub too_large : order_of (get_or ws 0 0) ≤ c
-      → Says (carried (0 ∷ []) ws (granting c (order_of (get_or ws 0 0)) (length ws - 1) (blocks_of ws))) (reply_of (Refused NoBlock)) ws
+      → Says (carried (0 ∷ []) ws (granting c (order_of (get_or ws 0 0)) (length ws - 1) (blocks_of ws))) (reply_of (Err NoBlock)) ws
   unfolding granting
   too_large h = stops (rw (le-leb (order_of (get_or ws 0 0)) c h) refl)
 
@@ -42,7 +42,7 @@ module _ (ws : List ℕ) (sound : soundb ws ≡ true) (c : ℕ) where
         ap (λ (n : ℕ). smallest n c 0 (blocks_of ws)) e ∙ sym found
 
     -- no free block is large enough
-    pub no_block : f ≡ Nowhere → Says (carried (0 ∷ []) ws (granting c (order_of (get_or ws 0 0)) (length ws - 1) (blocks_of ws))) (reply_of (Refused NoBlock)) ws
+    pub no_block : f ≡ Nowhere → Says (carried (0 ∷ []) ws (granting c (order_of (get_or ws 0 0)) (length ws - 1) (blocks_of ws))) (reply_of (Err NoBlock)) ws
     unfolding granting
     no_block e = stops (rw (lt-leb (order_of (get_or ws 0 0)) c h, served ∙ e) refl)
 

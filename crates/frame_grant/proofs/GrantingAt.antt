@@ -9,7 +9,7 @@ use lib.Dec.{eqb, leb}
 use lib.ListN.{length, get_or}
 use lib.Pow.{pow_mono, pow_pos}
 use borrow.Author.Tests.{eq-eqb, ne_eqb, le-leb, lt-leb}
-use Rattle.answers.specs.declared.Answer.TheVariants.{Refused}
+use Rattle.std.specs.Prelude.{Err}
 use Rattle.answers.specs.declared.Refusal.TheVariants.{NoBlock, Misaligned}
 use Rattle.answers.specs.Judging.{refused}
 use Rattle.rules.specs.Rules.{class, start, end, block_at, contains, containing, place_of}
@@ -31,7 +31,7 @@ use Rattle.frame_grant.specs.Granting.{granting_at}
 module _ (ws : List ℕ) (sound : soundb ws ≡ true) (run c : ℕ) where
   -- what a call that stops here says
   abbrev Stops : Type 0
-  Stops = Says (carried (0 ∷ []) ws (granting_at run c (order_of (get_or ws 0 0)) (length ws - 1) (blocks_of ws))) (reply_of (Refused NoBlock)) ws
+  Stops = Says (carried (0 ∷ []) ws (granting_at run c (order_of (get_or ws 0 0)) (length ws - 1) (blocks_of ws))) (reply_of (Err NoBlock)) ws
 
   says_none : granting_at run c (order_of (get_or ws 0 0)) (length ws - 1) (blocks_of ws) ≡ refused NoBlock → Stops
   says_none e = says-refused ws (granting_at run c (order_of (get_or ws 0 0)) (length ws - 1) (blocks_of ws)) NoBlock e
@@ -54,7 +54,7 @@ module _ (ws : List ℕ) (sound : soundb ws ≡ true) (run c : ℕ) where
         (omega (arith, size, pow_pos c), omega (arith, size))
 
     pub misaligned : (bit_and run (frames - 1) ≡ 0 → ⊥)
-        → Says (carried (0 ∷ []) ws (granting_at run c (order_of (get_or ws 0 0)) (length ws - 1) (blocks_of ws))) (reply_of (Refused Misaligned)) ws
+        → Says (carried (0 ∷ []) ws (granting_at run c (order_of (get_or ws 0 0)) (length ws - 1) (blocks_of ws))) (reply_of (Err Misaligned)) ws
     unfolding granting_at
     misaligned n = rw (lt-leb (order_of (get_or ws 0 0)) c h, ne_eqb (run % 2 ^ c) 0 (λ e. n (masked ∙ e))) (record { reply = refl; words = refl })
 

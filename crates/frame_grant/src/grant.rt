@@ -7,56 +7,55 @@ ghost use Rattle.frame_core.specs.Carried.{carried, Says, reply_of};
 ghost use Rattle.frame_grant.specs.Granting.{granting, granting_at};
 
 use answers::{Answer, Refusal};
-use blocks::Rounded;
 use rules::{Found, Place};
 
 // A record's word from here on has the granted mark, its topmost bit.
 const GRANTED: u64 = 0x8000_0000_0000_0000;
 
 // The smallest class that has a free block that suffices, in it the lowest start.
-pub fn grant_block(t: &mut [u64], size: Rounded) -> Answer
+pub fn grant_block(t: &mut [u64], size: Option<u64>) -> Answer
     requires { (soundb t.old ≡ true) × (wanted size ≤ 33) }
     ensures { Says (carried (0 ∷ []) t.old (granting (wanted size) (order_of (get_or t.old 0 0)) (length t.old - 1) (blocks_of t.old))) (reply_of result) t.new }
 {
-    let Rounded::Class(class) = size else {
-        return Answer::Refused(Refusal::NoBlock);
+    let Some(class) = size else {
+        return Err(Refusal::NoBlock);
     };
     let order = table::order_of(t[0]);
     if order <= class {
-        return Answer::Refused(Refusal::NoBlock);
+        return Err(Refusal::NoBlock);
     }
     let Found::At(i) = frame_core::pick(t, order, class) else {
-        return Answer::Refused(Refusal::NoBlock);
+        return Err(Refusal::NoBlock);
     };
     let lowest = table::start_of(t[i + 1]);
     frame_halve::halve(t, i, class, lowest)
 }
 
 // The run of the class at start, from the one free block that contains it.
-pub fn grant_run(t: &mut [u64], start: u64, size: Rounded) -> Answer
+pub fn grant_run(t: &mut [u64], start: u64, size: Option<u64>) -> Answer
     requires { (soundb t.old ≡ true) × (wanted size ≤ 33) }
     ensures { Says (carried (0 ∷ []) t.old (granting_at start (wanted size) (order_of (get_or t.old 0 0)) (length t.old - 1) (blocks_of t.old))) (reply_of result) t.new }
 {
-    let Rounded::Class(class) = size else {
-        return Answer::Refused(Refusal::NoBlock);
+    let Some(class) = size else {
+        return Err(Refusal::NoBlock);
     };
     if table::order_of(t[0]) <= class {
-        return Answer::Refused(Refusal::NoBlock);
+        return Err(Refusal::NoBlock);
     }
     let frames = blocks::size_of(class);
     // by a mask, since a division by a variable is slow
     if start & (frames - 1) != 0 {
-        return Answer::Refused(Refusal::Misaligned);
+        return Err(Refusal::Misaligned);
     }
     let Place::Inside(i) = table::place(t, start) else {
-        return Answer::Refused(Refusal::NoBlock);
+        return Err(Refusal::NoBlock);
     };
     let w = t[i + 1];
     if GRANTED <= w {
-        return Answer::Refused(Refusal::NoBlock);
+        return Err(Refusal::NoBlock);
     }
     if table::end_of(w) < start + frames {
-        return Answer::Refused(Refusal::NoBlock);
+        return Err(Refusal::NoBlock);
     }
     frame_halve::halve(t, i, class, start)
 }

@@ -6,7 +6,7 @@ use Prim.Native.Nat.{ℕ, suc, ◌+◌, ◌-◌, ◌%◌, ◌^◌, ◌≤◌, �
 use native.Mathlib.Omega.{arith}
 use lib.ListN.{length, take, drop, get_or, set}
 use borrow.Author.Tests.{lt-ltb, le-ltb}
-use Rattle.answers.specs.declared.Answer.TheVariants.{Done, Refused}
+use Rattle.std.specs.Prelude.{Ok, Err}
 use Rattle.answers.specs.declared.Refusal.TheVariants.{NoRoom}
 use Rattle.answers.specs.Judging.{refused, done, refuse, judge}
 use Rattle.rules.specs.Rules.{Block, class, start, end, block_at, towards, halved}
@@ -70,7 +70,7 @@ module _
     (classed : from ≡ class_of (get_or ws (i + 1) 0))
   where
     -- no room: nothing is changed
-    pub stays : length ws - 1 < count + (from - c) → Says (carried (0 ∷ []) ws (halving c run i ws)) (reply_of (Refused NoRoom)) ws
+    pub stays : length ws - 1 < count + (from - c) → Says (carried (0 ∷ []) ws (halving c run i ws)) (reply_of (Err NoRoom)) ws
     stays full =
         let bs : List Block = halved c run i (blocks_of ws) in
         let q : halving c run i ws ≡ refused NoRoom =
@@ -83,7 +83,7 @@ module _
         → moved ≡ take (i + 2 + (from - c)) ws ++ pad (length ws - (i + 2 + (from - c))) (drop (i + 2) ws)
         → written ≡ take (i + 1) moved ++ (map word_of (towards from c run at) ++ drop (i + 1 + 1 + (from - c)) moved)
         → ((st : State) → st.order ≡ order % 64 → length st.blocks ≡ (count + (from - c)) % 65536 → head ≡ head_of st)
-        → Says (carried (0 ∷ []) ws (halving c run i ws)) (reply_of (Done run)) (set written 0 head)
+        → Says (carried (0 ∷ []) ws (halving c run i ws)) (reply_of (Ok run)) (set written 0 head)
     grants room fits at order head moved written started ordered u v headed =
         let k = known ws i c can in
         let n : length (blocks_of ws) ≡ count_of (get_or ws 0 0) = length-blocks ws can.sound in

@@ -19,12 +19,12 @@ pub fn halve(t: &mut [u64], i: usize, class: u64, run: u64) -> Answer
     let more = (from - class) as usize;
     // before any write, since a refused call changes no word
     if t.len() - 1 < count + more {
-        return Answer::Refused(Refusal::NoRoom);
+        return Err(Refusal::NoRoom);
     }
     words::move_tail(t, i + 2, i + 2 + more, count + 1);
     write_halves(t, i + 1, class, run, from, table::start_of(w));
     t[0] = table::head_word(table::order_of(head), (count + more) as u64);
-    Answer::Done(run)
+    Ok(run)
 }
 
 // Writes what a block of class `from` at `start` is halved into towards the run, to the window of from - class + 1 words at `at`: from

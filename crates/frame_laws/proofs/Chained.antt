@@ -2,7 +2,7 @@
 use mathlib.Core.Path.{◌≡◌, refl, sym, ap, ◌∙◌}
 use mathlib.Core.List.{List, [], ◌∷◌}
 use Prim.Native.Nat.{ℕ}
-use Rattle.answers.specs.declared.Answer.{Answer}
+use Rattle.answers.specs.Paper.{Answer}
 use Rattle.answers.specs.Paper.{paper}
 use Rattle.frame_core.specs.Carried.{Reply}
 use Rattle.frame.specs.Outcome.{Call}

@@ -6,7 +6,7 @@ use Prim.Native.Nat.{ℕ, ◌+◌, ◌-◌, ◌%◌, ◌^◌, ◌≤◌, ◌<◌
 use native.Mathlib.Omega.{arith}
 use lib.ListN.{length, get_or}
 use borrow.Author.Tests.{eq-eqb, ne_eqb}
-use Rattle.answers.specs.declared.Answer.TheVariants.{Refused}
+use Rattle.std.specs.Prelude.{Err}
 use Rattle.answers.specs.declared.Refusal.TheVariants.{NotGranted}
 use Rattle.answers.specs.Judging.{done}
 use Rattle.rules.specs.Rules.{Block, blk, granted, class, start, end, Sound, none, next, is_granted, some, block_at, released, place_of}
@@ -40,18 +40,18 @@ granted-is k s (blk true j t) e = let p = granted-picks k s true j t e in cc
 module _ (ws : List ℕ) (sound : soundb ws ≡ true) (s c : ℕ) where
   -- where no such block is granted, that is the refusal
   refusal : some (is_granted c s) (blocks_of ws) ≡ false
-      → Says (carried (0 ∷ []) ws (releasing s c (order_of (get_or ws 0 0)) (blocks_of ws))) (reply_of (Refused NotGranted)) ws
+      → Says (carried (0 ∷ []) ws (releasing s c (order_of (get_or ws 0 0)) (blocks_of ws))) (reply_of (Err NotGranted)) ws
   unfolding releasing
   refusal e = says-refused ws (releasing s c (order_of (get_or ws 0 0)) (blocks_of ws)) NotGranted (rw e refl)
 
   -- a class above every block
-  pub above-top : 33 ≤ c → Says (carried (0 ∷ []) ws (releasing s c (order_of (get_or ws 0 0)) (blocks_of ws))) (reply_of (Refused NotGranted)) ws
+  pub above-top : 33 ≤ c → Says (carried (0 ∷ []) ws (releasing s c (order_of (get_or ws 0 0)) (blocks_of ws))) (reply_of (Err NotGranted)) ws
   above-top h =
       let f = sound-fact ws sound in
       refusal (some-misses (is_granted c s) (no-class c s (omega (arith, f.head.high)) (sound-blocks ws sound)))
 
   -- no block has the start
-  pub in-gap : (i : ℕ) → place_of s (blocks_of ws) ≡ Gap i → Says (carried (0 ∷ []) ws (releasing s c (order_of (get_or ws 0 0)) (blocks_of ws))) (reply_of (Refused NotGranted)) ws
+  pub in-gap : (i : ℕ) → place_of s (blocks_of ws) ≡ Gap i → Says (carried (0 ∷ []) ws (releasing s c (order_of (get_or ws 0 0)) (blocks_of ws))) (reply_of (Err NotGranted)) ws
   in-gap i e = refusal (none-granted c s i (blocks_of ws) (gap_is s i (blocks_of ws) (sound-blocks ws sound) e))
 
   -- the block at place i has it: there is such a word
@@ -75,7 +75,7 @@ module _ (ws : List ℕ) (sound : soundb ws ≡ true) (s c : ℕ) where
     word = made ∙ ap word_of (record-fits true c s small fits)
 
     pub other_word : ((j : ℕ) → get_or ws j 0 < 2 ^ 64) → (get_or ws (i + 1) 0 ≡ v → ⊥)
-        → Says (carried (0 ∷ []) ws (releasing s c (order_of (get_or ws 0 0)) (blocks_of ws))) (reply_of (Refused NotGranted)) ws
+        → Says (carried (0 ∷ []) ws (releasing s c (order_of (get_or ws 0 0)) (blocks_of ws))) (reply_of (Err NotGranted)) ws
     other_word below n = refusal (granted-here c s i (blocks_of ws) at ∙ no)
       where
         no : is_granted c s (block_at i (blocks_of ws)) ≡ false

@@ -8,7 +8,7 @@ use native.Mathlib.Omega.{arith}
 use lib.Pow.{pow_pos}
 use lib.ListN.{length, take, drop, get_or, set, length-append}
 use lib.Seq.{set_split, length-take-le}
-use Rattle.answers.specs.declared.Answer.TheVariants.{Done}
+use Rattle.std.specs.Prelude.{Ok}
 use Rattle.rules.specs.Rules.{Block, blk}
 use Rattle.table.specs.Layout.{State, order_of, count_of, blocks_of, word_of, head_of, words_of}
 use Rattle.words.specs.Words.{pad}
@@ -42,7 +42,7 @@ module _ (ws : List ℕ) (i count : ℕ) (p : Releasable ws i) (counted : count 
         → moved ≡ take (from + 2) ws ++ pad (length ws - (from + 2)) (drop (to + 1) ws)
         → v ≡ word_of (blk false (k % 64) (s % 2 ^ 32))
         → ((st : State) → st.order ≡ order % 64 → length st.blocks ≡ (count - (to - from) + 1) % 65536 → head ≡ head_of st)
-        → Says (carried (0 ∷ []) ws (released_at ws i)) (reply_of (Done 0)) (set (set moved (from + 1) v) 0 head)
+        → Says (carried (0 ∷ []) ws (released_at ws i)) (reply_of (Ok 0)) (set (set moved (from + 1) v) 0 head)
     released below order head v moved ordered u made headed =
         let q = known in
         let n : length (blocks_of ws) ≡ count_of (get_or ws 0 0) = length-blocks ws p.sound in

@@ -8,7 +8,6 @@ ghost use Rattle.frame_release.specs.Release.{Releasable, Joins, released_at};
 ghost use Rattle.frame_release.specs.Releasing.{releasing};
 
 use answers::{Answer, Refusal};
-use blocks::Rounded;
 use rules::Place;
 
 // The records from place `from` up to, not including, `to` give way to one free block.
@@ -98,22 +97,22 @@ fn release_at(t: &mut [u64], i: usize) -> Answer
     words::move_tail(t, to + 1, from + 2, count + 1);
     t[from + 1] = table::record_word(false, span.class, span.start);
     t[0] = table::head_word(table::order_of(head), (count - (to - from) + 1) as u64);
-    Answer::Done(0)
+    Ok(0)
 }
 
 // Releases the block at start of the class that a count was rounded to, if such a block is granted, in a sound table.
-pub fn release_block(t: &mut [u64], start: u64, size: Rounded) -> Answer
+pub fn release_block(t: &mut [u64], start: u64, size: Option<u64>) -> Answer
     requires { (soundb t.old ≡ true) × (wanted size ≤ 33) }
     ensures { Says (carried (0 ∷ []) t.old (releasing start (wanted size) (order_of (get_or t.old 0 0)) (blocks_of t.old))) (reply_of result) t.new }
 {
-    let Rounded::Class(class) = size else {
-        return Answer::Refused(Refusal::NotGranted);
+    let Some(class) = size else {
+        return Err(Refusal::NotGranted);
     };
     let Place::Inside(i) = table::place(t, start) else {
-        return Answer::Refused(Refusal::NotGranted);
+        return Err(Refusal::NotGranted);
     };
     if t[i + 1] != table::record_word(true, class, start) {
-        return Answer::Refused(Refusal::NotGranted);
+        return Err(Refusal::NotGranted);
     }
     release_at(t, i)
 }

@@ -6,7 +6,7 @@ use Prim.Native.Nat.{ℕ, ◌+◌, ◌*◌, ◌^◌, ◌≤◌, ◌<◌}
 use native.Mathlib.Decide.{dec_le}
 use native.Mathlib.Omega.{arith}
 use lib.ListN.{length}
-use Rattle.answers.specs.declared.Answer.TheVariants.{Done, Refused}
+use Rattle.std.specs.Prelude.{Ok, Err}
 use Rattle.answers.specs.declared.Refusal.TheVariants.{BadState, BadRange}
 use Rattle.heap_state.specs.declared.Heap.{Heap}
 use Rattle.heap_state.specs.declared.Reply.{Reply}
@@ -21,7 +21,7 @@ use Rattle.heap.specs.Outcome.{Call, Init, decide, outcome}
 
 module _ (h : Heap) (arena ledger : List ℕ) where
   -- a heap that is not sound
-  pub unsound : (call : Call) → soundb h arena ledger ≡ false → Says (outcome call (state h arena ledger)) (record { answer = Refused BadState; heap = h }) arena ledger
+  pub unsound : (call : Call) → soundb h arena ledger ≡ false → Says (outcome call (state h arena ledger)) (record { answer = Err BadState; heap = h }) arena ledger
   unfolding outcome
   unsound call e = rw (e, outcome) (record { number_is = refl; value_is = refl; state_is = refl })
 
@@ -31,12 +31,12 @@ module _ (h : Heap) (arena ledger : List ℕ) where
     decided w = rw (sound, outcome) w
 
     pub figure : (v : ℕ) → decide call (state h arena ledger) ≡ done v (state h arena ledger)
-        → Says (outcome call (state h arena ledger)) (record { answer = Done v; heap = h }) arena ledger
+        → Says (outcome call (state h arena ledger)) (record { answer = Ok v; heap = h }) arena ledger
     figure v e = decided (rw e (record { number_is = refl; value_is = refl; state_is = refl }))
 
   -- an end that is no number of 64 bits is above every arena
   pub past-64-bits : (start size : ℕ) → start < 2 ^ 64 → soundb h arena ledger ≡ true → 2 ^ 64 ≤ start + size
-      → Says (outcome (Init start size) (state h arena ledger)) (record { answer = Refused BadRange; heap = h }) arena ledger
+      → Says (outcome (Init start size) (state h arena ledger)) (record { answer = Err BadRange; heap = h }) arena ledger
   unfolding decide
   past-64-bits start size p sound out = decided (Init start size) sound (rw above (record { number_is = refl; value_is = refl; state_is = refl }))
     where

@@ -1,6 +1,6 @@
 -- What the promises of the calls say: the answer, the record and every lent word afterwards are the outcome's.
 use Rattle.std.specs.Prelude.{List, [], ◌∷◌, ℕ, set}
-use Rattle.answers.specs.declared.Answer.{Answer}
+use Rattle.answers.specs.Paper.{Answer}
 use Rattle.answers.specs.Paper.{Paper, paper}
 use Rattle.heap_state.specs.declared.Heap.{Heap}
 use Rattle.heap_state.specs.declared.Reply.{Reply}

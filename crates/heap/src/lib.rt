@@ -19,14 +19,14 @@ pub fn init(h: Heap, arena: &mut [u64], ledger: &[u64], start: u64, size: u64) -
 {
     if !heap_sound::sound(h, arena, ledger) {
         return Reply {
-            answer: Answer::Refused(Refusal::BadState),
+            answer: Err(Refusal::BadState),
             heap: h,
         };
     }
     // an end that is no number of 64 bits is above every arena
     if LARGEST - start < size {
         return Reply {
-            answer: Answer::Refused(Refusal::BadRange),
+            answer: Err(Refusal::BadRange),
             heap: h,
         };
     }
@@ -39,7 +39,7 @@ pub fn add_to_heap(h: Heap, arena: &mut [u64], ledger: &[u64], start: u64, end: 
 {
     if !heap_sound::sound(h, arena, ledger) {
         return Reply {
-            answer: Answer::Refused(Refusal::BadState),
+            answer: Err(Refusal::BadState),
             heap: h,
         };
     }
@@ -52,7 +52,7 @@ pub fn alloc(h: Heap, arena: &mut [u64], ledger: &mut [u64], size: u64, align: u
 {
     if !heap_sound::sound(h, arena, ledger) {
         return Reply {
-            answer: Answer::Refused(Refusal::BadState),
+            answer: Err(Refusal::BadState),
             heap: h,
         };
     }
@@ -72,7 +72,7 @@ pub fn dealloc(
 {
     if !heap_sound::sound(h, arena, ledger) {
         return Reply {
-            answer: Answer::Refused(Refusal::BadState),
+            answer: Err(Refusal::BadState),
             heap: h,
         };
     }
@@ -92,7 +92,7 @@ pub fn zero_fill(
 {
     if !heap_sound::sound(h, arena, ledger) {
         return Reply {
-            answer: Answer::Refused(Refusal::BadState),
+            answer: Err(Refusal::BadState),
             heap: h,
         };
     }
@@ -104,9 +104,9 @@ pub fn stats_alloc_user(h: Heap, arena: &[u64], ledger: &[u64]) -> Answer
     ensures { Read StatsAllocUser h arena.now ledger.now result }
 {
     if !heap_sound::sound(h, arena, ledger) {
-        return Answer::Refused(Refusal::BadState);
+        return Err(Refusal::BadState);
     }
-    Answer::Done(h.user)
+    Ok(h.user)
 }
 
 // The bytes of the blocks that are granted.
@@ -114,9 +114,9 @@ pub fn stats_alloc_actual(h: Heap, arena: &[u64], ledger: &[u64]) -> Answer
     ensures { Read StatsAllocActual h arena.now ledger.now result }
 {
     if !heap_sound::sound(h, arena, ledger) {
-        return Answer::Refused(Refusal::BadState);
+        return Err(Refusal::BadState);
     }
-    Answer::Done(h.allocated)
+    Ok(h.allocated)
 }
 
 // The bytes of all blocks, free and granted.
@@ -124,7 +124,7 @@ pub fn stats_total_bytes(h: Heap, arena: &[u64], ledger: &[u64]) -> Answer
     ensures { Read StatsTotalBytes h arena.now ledger.now result }
 {
     if !heap_sound::sound(h, arena, ledger) {
-        return Answer::Refused(Refusal::BadState);
+        return Err(Refusal::BadState);
     }
-    Answer::Done(h.total)
+    Ok(h.total)
 }

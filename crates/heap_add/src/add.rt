@@ -6,7 +6,7 @@ ghost use Rattle.heap_add.specs.Adding.{adding};
 ghost use Rattle.heap_core.specs.Deciding.{carried};
 ghost use Rattle.heap_add.specs.Parts.{adding_words};
 
-use answers::{Answer, Refusal};
+use answers::Refusal;
 use heap_core::refused;
 use heap_overlap::{free_meets, granted_meets};
 use heap_state::{Heap, Reply};
@@ -31,7 +31,7 @@ pub fn add_range(h: Heap, arena: &mut [u64], ledger: &[u64], start: u64, end: u6
     // an empty range is accepted anywhere, inside a block too
     if from == to {
         return Reply {
-            answer: Answer::Done(0),
+            answer: Ok(0),
             heap: h,
         };
     }
@@ -56,7 +56,7 @@ fn add_words(h: Heap, arena: &mut [u64], ledger: &[u64], from: u64, to: u64) -> 
     heap_moves::push_pieces(&mut g.heads, arena, h.order - 1, from, to - from);
     g.total = h.total + (to - from);
     Reply {
-        answer: Answer::Done(0),
+        answer: Ok(0),
         heap: g,
     }
 }

@@ -3,36 +3,35 @@ use mathlib.Core.Path.{◌≡◌, refl, sym, ◌∙◌}
 use Prim.Native.Nat.{ℕ, ◌^◌, ◌≤◌, ◌<◌, max}
 use native.Mathlib.Omega.{arith}
 use lib.Pow.{pow_mono}
-use Rattle.blocks.specs.declared.Rounded.{Rounded}
-use Rattle.blocks.specs.declared.Rounded.TheVariants.{Class, Above}
+use Rattle.std.specs.Prelude.{Option, Some, None}
 use Rattle.blocks.specs.Blocks.{rounded_aligned}
 use Rattle.blocks.specs.Laws.{Least}
 use Rattle.blocks.proofs.Rounding.{least-class, aligned-is}
 use Rattle.heap_core.specs.Deciding.{wanted, class_for}
 
-pub wanted-above : (r : Rounded) → r ≡ Above → 33 ≡ wanted r
+pub wanted-above : (r : Option ℕ) → r ≡ None → 33 ≡ wanted r
 wanted-above r e = rw e
 
-pub wanted-low : (r : Rounded) (k : ℕ) → r ≡ Class k → k < 3 → 3 ≡ wanted r
+pub wanted-low : (r : Option ℕ) (k : ℕ) → r ≡ Some k → k < 3 → 3 ≡ wanted r
 wanted-low r k e h = rw e (omega arith)
 
-pub wanted-high : (r : Rounded) (k : ℕ) → r ≡ Class k → 3 ≤ k → k ≡ wanted r
+pub wanted-high : (r : Option ℕ) (k : ℕ) → r ≡ Some k → 3 ≤ k → k ≡ wanted r
 wanted-high r k e h = rw e (omega arith)
 
 pub class-word : (size align : ℕ) → 3 ≤ class_for size align
 class-word size align = go (rounded_aligned size align)
   where
-    go : (r : Rounded) → 3 ≤ wanted r
-    go (Class k) = omega arith
-    go Above = omega arith
+    go : (r : Option ℕ) → 3 ≤ wanted r
+    go (Some k) = omega arith
+    go None = omega arith
 
 -- a class below 33 holds the request
 pub class-holds : (size align : ℕ) → class_for size align < 33 → size ≤ 2 ^ class_for size align
 class-holds size align h = go (rounded_aligned size align) refl h
   where
-    go : (r : Rounded) → rounded_aligned size align ≡ r → wanted r < 33 → size ≤ 2 ^ wanted r
-    go (Class k) e l =
+    go : (r : Option ℕ) → rounded_aligned size align ≡ r → wanted r < 33 → size ≤ 2 ^ wanted r
+    go (Some k) e l =
         let least : Least (max size align) k = least-class (max size align) k (sym (aligned-is size align) ∙ e) in
         let m : 2 ^ k ≤ 2 ^ max 3 k = pow_mono (omega arith) in
         omega (arith, least.holds)
-    go Above e l = let z : 34 ≤ 33 = l in omega arith
+    go None e l = let z : 34 ≤ 33 = l in omega arith

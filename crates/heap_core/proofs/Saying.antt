@@ -2,7 +2,7 @@
 use mathlib.Core.Path.{◌≡◌, refl}
 use mathlib.Core.List.{List}
 use Prim.Native.Nat.{ℕ}
-use Rattle.answers.specs.declared.Answer.TheVariants.{Done}
+use Rattle.std.specs.Prelude.{Ok}
 use Rattle.answers.specs.declared.Refusal.{Refusal}
 use Rattle.heap_state.specs.declared.Heap.{Heap}
 use Rattle.heap_state.specs.declared.Reply.{Reply}
@@ -16,5 +16,5 @@ pub says-refused : (h : Heap) (arena ledger : List ℕ) (r : Refusal) (reply : R
 says-refused h arena ledger r reply d e f = rw (e, f) (record { number_is = refl; value_is = refl; state_is = refl })
 
 pub says-done : (before after : State) (h : Heap) (arena ledger : List ℕ) (value : ℕ) (d : Decision) → d ≡ done value after → state h arena ledger ≡ after
-    → Says (carried before d) (record { answer = Done value; heap = h }) arena ledger
+    → Says (carried before d) (record { answer = Ok value; heap = h }) arena ledger
 says-done before after h arena ledger value d e f = rw e (record { number_is = refl; value_is = refl; state_is = f })

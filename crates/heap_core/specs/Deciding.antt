@@ -4,8 +4,7 @@ use Rattle.std.specs.Prelude.{List, ℕ, ◌-◌, ◌*◌, max, length}
 use Rattle.answers.specs.Judging as judging
 use Rattle.answers.specs.Judging.{refused, done}
 use Rattle.answers.specs.Paper.{number_of}
-use Rattle.blocks.specs.declared.Rounded.{Rounded}
-use Rattle.blocks.specs.declared.Rounded.TheVariants.{Class, Above}
+use Rattle.std.specs.Prelude.{Option, Some, None}
 use Rattle.blocks.specs.Blocks.{rounded_aligned}
 use Rattle.ledger.specs.Ledger.{Grant, grants, ledger_words}
 use Rattle.heap_state.specs.Lists.{Memory}
@@ -30,9 +29,9 @@ abbrev pub granted : State → List Grant
 granted s = grants s.heap.count s.ledger
 
 -- "Sizes are in bytes, at least 8": the class of a size and an alignment; 33, a class of no heap, above every block
-abbrev pub wanted : Rounded → ℕ
-wanted (Class k) = max 3 k
-wanted Above = 33
+abbrev pub wanted : Option ℕ → ℕ
+wanted (Some k) = max 3 k
+wanted None = 33
 
 abbrev pub class_for : ℕ → ℕ → ℕ
 class_for size align = wanted (rounded_aligned size align)

@@ -8,7 +8,7 @@ mod request;
 ghost use Rattle.std.specs.Prelude.{◌≡◌};
 ghost use Rattle.heap_core.specs.Parts.{refused_with};
 
-use answers::{Answer, Refusal};
+use answers::Refusal;
 use heap_state::{Heap, Reply};
 pub use request::class_for;
 
@@ -17,7 +17,7 @@ pub fn refused(h: Heap, refusal: Refusal) -> Reply
     ensures { result ≡ refused_with h refusal }
 {
     Reply {
-        answer: Answer::Refused(refusal),
+        answer: Err(refusal),
         heap: h,
     }
 }

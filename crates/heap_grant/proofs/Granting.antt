@@ -8,8 +8,8 @@ use lib.Dec.{leb}
 use lib.Pow.{pow_mono}
 use lib.ListN.{length}
 use borrow.Author.Tests.{le-leb, lt-leb}
-use Rattle.answers.specs.declared.Answer.{Answer}
-use Rattle.answers.specs.declared.Answer.TheVariants.{Done, Refused}
+use Rattle.answers.specs.Paper.{Answer}
+use Rattle.std.specs.Prelude.{Ok, Err}
 use Rattle.answers.specs.declared.Refusal.{Refusal}
 use Rattle.answers.specs.declared.Refusal.TheVariants.{BadAlign, NoBlock, NoRoom}
 use Rattle.blocks.specs.Blocks.{is_power_of_two, size_of}
@@ -36,10 +36,10 @@ use Rattle.heap_grant.proofs.Serving.{first-same, Serves, found-serves}
 
 -- ---- an answer is one thing
 
-pub done-one : (a : Answer) (v w : ℕ) → a ≡ Done v → a ≡ Done w → v ≡ w
+pub done-one : (a : Answer) (v w : ℕ) → a ≡ Ok v → a ≡ Ok w → v ≡ w
 done-one a v w e f = cc
 
-pub done-not-refused : (a : Answer) (v : ℕ) (r : Refusal) → a ≡ Done v → a ≡ Refused r → ⊥
+pub done-not-refused : (a : Answer) (v : ℕ) (r : Refusal) → a ≡ Ok v → a ≡ Err r → ⊥
 done-not-refused a v r e f = let w : ◌≡◌ {A = ℕ} 0 1 = cc in omega arith
 
 -- ---- a grant that passed its tests
@@ -81,12 +81,12 @@ module _ (st : State) (from class size : ℕ) (g : Grantable st from class size)
   one_more block = omega (arith, length-enter (grant class size block) (granted st), length-grants st.heap.order st.heap.count st.ledger (kept st sound))
 
   -- what was taken out of the lists and entered into the ledger is what is decided
-  module _ (r : Answer) (block : ℕ) (heads arena : List ℕ) (taken : TakenOut from class (memory st) r (mem heads arena)) (told : r ≡ Done block) where
+  module _ (r : Answer) (block : ℕ) (heads arena : List ℕ) (taken : TakenOut from class (memory st) r (mem heads arena)) (told : r ≡ Ok block) where
     pub block-is : block ≡ head class (split_down (from - class) class (memory st))
     block-is = done-one r block (head class (split_down (from - class) class (memory st))) told taken.answer
 
     pub grant-says : (words : List ℕ) (sized : ℕ) → words ≡ ledger_words (length st.ledger) (enter (grant class size block) (granted st)) → sized ≡ size_of class
-        → Says (carried st (grant_done from class size st)) (record { answer = Done block; heap = granted_heap heads (st.heap.count + 1) (st.heap.user + size) (st.heap.allocated + sized) st.heap }) arena words
+        → Says (carried st (grant_done from class size st)) (record { answer = Ok block; heap = granted_heap heads (st.heap.count + 1) (st.heap.user + size) (st.heap.allocated + sized) st.heap }) arena words
     grant-says words sized e z =
         let two : sized ≡ 2 ^ class = z ∙ size_is class (omega (arith, g.suffices, g.is_class)) in
         record { number_is = refl; value_is = block-is; state_is = rw (e, sym (one_more block), two, block-is) (left taken.memory) }

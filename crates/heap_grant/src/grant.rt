@@ -8,7 +8,7 @@ ghost use Rattle.heap_core.specs.Deciding.{carried};
 ghost use Rattle.heap_grant.specs.Parts.{Grantable, grant_done};
 ghost use Rattle.heap_moves.specs.Moves.{mem};
 
-use answers::{Answer, Refusal};
+use answers::Refusal;
 use heap_core::{class_for, refused};
 use heap_state::{Heap, Reply};
 
@@ -63,7 +63,7 @@ fn grant_from(
 {
     let mut g = h;
     let answer = heap_moves::take_block(&mut g.heads, arena, from, class);
-    let Answer::Done(block) = answer else {
+    let Ok(block) = answer else {
         return Reply {
             answer: answer,
             heap: h,
@@ -74,7 +74,7 @@ fn grant_from(
     g.user = h.user + size;
     g.allocated = h.allocated + blocks::size_of(class);
     Reply {
-        answer: Answer::Done(block),
+        answer: Ok(block),
         heap: g,
     }
 }

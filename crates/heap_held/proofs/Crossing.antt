@@ -2,8 +2,8 @@
 use mathlib.Core.Path.{◌≡◌, refl, sym, ap, ◌∙◌}
 use mathlib.Core.List.{List}
 use Prim.Native.Nat.{ℕ}
-use Rattle.answers.specs.declared.Answer.{Answer}
-use Rattle.answers.specs.declared.Answer.TheVariants.{Done, Refused}
+use Rattle.answers.specs.Paper.{Answer}
+use Rattle.std.specs.Prelude.{Ok, Err}
 use Rattle.answers_c.specs.declared.CAnswer.{CAnswer}
 use Rattle.answers.specs.declared.Refusal.{Refusal}
 use Rattle.answers.specs.declared.Refusal.TheVariants.{BadOrder, BadSize, BadState, BadRange, NullStart, Overlap, BadAlign, Misaligned, NoBlock, NotGranted, NoRoom}
@@ -40,12 +40,12 @@ kept NotGranted h g = refl
 kept NoRoom h g = refl
 
 module _ (h : Heap) (o : Outcome) (reply : Reply) (arena ledger : List ℕ) (s : Says o reply arena ledger) where
-  pub made : (v : ℕ) → reply.answer ≡ Done v → Says (keeping h o) reply arena ledger
+  pub made : (v : ℕ) → reply.answer ≡ Ok v → Says (keeping h o) reply arena ledger
   made v e =
       let n : o.number ≡ 0 = sym s.number_is ∙ ap (λ (a : Answer). (paper a).number) e in
       record { number_is = s.number_is; value_is = s.value_is; state_is = s.state_is ∙ rw n refl }
 
-  pub not_made : (r : Refusal) → reply.answer ≡ Refused r → Says (keeping h o) (record { answer = Refused r; heap = h }) arena ledger
+  pub not_made : (r : Refusal) → reply.answer ≡ Err r → Says (keeping h o) (record { answer = Err r; heap = h }) arena ledger
   not_made r e =
       let n : number_of r ≡ o.number = ap (λ (a : Answer). (paper a).number) (sym e) ∙ s.number_is in
       let v : 0 ≡ o.value = ap (λ (a : Answer). (paper a).value) (sym e) ∙ s.value_is in

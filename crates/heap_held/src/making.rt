@@ -3,7 +3,6 @@ ghost use Rattle.heap_state.specs.State.{state};
 ghost use Rattle.heap_held.specs.Crossed.{Crossed, making_over};
 
 use super::{Settled, in_numbers};
-use answers::Answer;
 use answers_c::CAnswer;
 use heap_state::{Heap, Reply};
 
@@ -14,9 +13,9 @@ fn new_settled(h: Heap, arena: &[u64], ledger: &mut [u64], order: u64) -> Settle
     let made = Heap::new(order, arena, ledger);
     let answer = made.answer;
     match answer {
-        Answer::Done(_) => in_numbers(made),
-        Answer::Refused(refusal) => in_numbers(Reply {
-            answer: Answer::Refused(refusal),
+        Ok(_) => in_numbers(made),
+        Err(refusal) => in_numbers(Reply {
+            answer: Err(refusal),
             heap: h,
         }),
     }

@@ -10,7 +10,7 @@ use Rattle.linked_list.specs.Links.{next, popped}
 use Rattle.linked_list.specs.declared.Popped.TheVariants.{Block, Nothing}
 use Rattle.linked_list.specs.declared.Taken.{Taken}
 use Rattle.heap_state.specs.Lists.{Memory, head, push, pop, split, split_down}
-use Rattle.answers.specs.declared.Answer.TheVariants.{Done}
+use Rattle.std.specs.Prelude.{Ok}
 use Rattle.blocks.specs.Blocks.{size_of}
 use Rattle.blocks.proofs.Rounding.{size_is}
 use Rattle.heap_moves.specs.Moves.{mem, TakenOut}
@@ -115,14 +115,14 @@ upper_fits k from size top block h some e f l b =
 
 -- no halving is left: the block is the first of its class
 pub taken : (from class k : ℕ) (m₀ : Memory) (heads arena : List ℕ) (t : Taken) → k ≤ class → Halving from class m₀ (mem heads arena) k
-    → popped (get_or heads class 0) arena ≡ Block t → TakenOut from class m₀ (Done t.block) (mem (set heads class t.head) arena)
+    → popped (get_or heads class 0) arena ≡ Block t → TakenOut from class m₀ (Ok t.block) (mem (set heads class t.head) arena)
 unfolding split_down
 taken from class k m₀ heads arena t out h e =
     let p = block-popped (get_or heads class 0) arena t e in
     let z : k - class ≡ 0 = omega arith in
     let r : mem heads arena ≡ split_down (from - class) class m₀ = rw z at h.rest in
     record {
-      answer = ap Done (p.block ∙ ap (head class) r);
+      answer = ap Ok (p.block ∙ ap (head class) r);
       memory = pop-is heads arena class t.head p.link ∙ ap (pop class) r;
     }
 

@@ -1,7 +1,7 @@
 -- Forms of the promises of src/: heads and arena as one memory.
 use Rattle.std.specs.Prelude.{◌≡◌, List, ℕ, ◌+◌, ◌-◌, ◌^◌, ◌≤◌, ◌<◌, length}
-use Rattle.answers.specs.declared.Answer.{Answer}
-use Rattle.answers.specs.declared.Answer.TheVariants.{Done}
+use Rattle.answers.specs.Paper.{Answer}
+use Rattle.std.specs.Prelude.{Ok}
 use Rattle.linked_list.specs.declared.Previous.{Previous}
 use Rattle.linked_list.specs.Links.{removed}
 use Rattle.heap_state.specs.Lists.{Memory, head, with_list, pop, split_down, Released}
@@ -19,7 +19,7 @@ pub record Servable (m : Memory) (from class : ℕ) : Type 0 where
 
 -- the answer is the block that came out, and the memory is without it
 pub record TakenOut (from class : ℕ) (m : Memory) (r : Answer) (after : Memory) : Type 0 where
-  pub answer : r ≡ Done (head class (split_down (from - class) class m))
+  pub answer : r ≡ Ok (head class (split_down (from - class) class m))
   pub memory : after ≡ pop class (split_down (from - class) class m)
 
 -- a node taken out of the list of its class, by the place of the link to it

@@ -34,7 +34,7 @@ pub fn take_block(heads: &mut [u64; 33], arena: &mut [u64], from: u64, class: u6
     while class < k {
         let popped = linked_list::pop(heads[k as usize], arena);
         let Popped::Block(first) = popped else {
-            return Answer::Refused(Refusal::NoBlock);
+            return Err(Refusal::NoBlock);
         };
         heads[k as usize] = first.head;
         k -= 1;
@@ -44,10 +44,10 @@ pub fn take_block(heads: &mut [u64; 33], arena: &mut [u64], from: u64, class: u6
     }
     let popped = linked_list::pop(heads[class as usize], arena);
     let Popped::Block(first) = popped else {
-        return Answer::Refused(Refusal::NoBlock);
+        return Err(Refusal::NoBlock);
     };
     heads[class as usize] = first.head;
-    Answer::Done(first.block)
+    Ok(first.block)
 }
 
 // A node leaves its list, by the place of the link to it.

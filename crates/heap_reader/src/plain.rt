@@ -3,7 +3,7 @@ ghost use Rattle.std.specs.Prelude.{◌≡◌};
 ghost use Rattle.heap_reader.specs.Reading.{start_of, step_at};
 
 use super::Step;
-use answers::{Refusal, refusal_number};
+use answers::Refusal;
 use heap_state::Heap;
 use linked_list::next;
 
@@ -17,7 +17,7 @@ pub fn start_of(h: Heap, arena: &[u64], ledger: &[u64], class: u64) -> Step
         return Step {
             node: 0,
             at: 0,
-            number: refusal_number(Refusal::BadState),
+            number: u64::from(Refusal::BadState),
         };
     }
     let mut at = 0;

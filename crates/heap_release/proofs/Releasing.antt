@@ -8,7 +8,7 @@ use lib.Pow.{pow-add}
 use lib.ListN.{length, take, drop, replicate, length-drop}
 use lib.Seq.{length-take-le, drop-drop}
 use borrow.Rule.Slice.PartMut.{mid_of, put_mid}
-use Rattle.answers.specs.declared.Answer.TheVariants.{Done}
+use Rattle.std.specs.Prelude.{Ok}
 use Rattle.answers.specs.declared.Refusal.TheVariants.{BadAlign, NotGranted}
 use Rattle.blocks.specs.Blocks.{is_power_of_two, size_of}
 use Rattle.blocks.proofs.Powers.{multiple-le}
@@ -153,12 +153,12 @@ module _ (address size align : ℕ) (st : State) where
         → words ≡ ledger_words (length st.ledger) (take i (granted st) ++ drop (suc i) (granted st))
         → released compared (mem heads arena) ≡ release (top st) class address (memory st) → sized ≡ size_of class
         → Says (carried st freed)
-        (record { answer = Done compared; heap = granted_heap heads (st.heap.count - 1) (st.heap.user - size) (st.heap.allocated - sized) st.heap }) arena words
+        (record { answer = Ok compared; heap = granted_heap heads (st.heap.count - 1) (st.heap.user - size) (st.heap.allocated - sized) st.heap }) arena words
     freed-says heads arena words compared sized e q z =
         let two : sized ≡ 2 ^ class = z ∙ size_is class (omega (arith, (recorded-in st class size address i sound found).class-high, sound.ranges.order-high)) in
         subst (λ (k : ℕ). Says (carried st (done (release (top st) k address (memory st)).nodes_compared
         (with_grants st (release (top st) k address (memory st)).memory (strike (same k size address) (granted st)) (st.heap.user - size) (st.heap.allocated - 2 ^ k))))
-        (record { answer = Done compared; heap = granted_heap heads (st.heap.count - 1) (st.heap.user - size) (st.heap.allocated - sized) st.heap }) arena words) class-is
+        (record { answer = Ok compared; heap = granted_heap heads (st.heap.count - 1) (st.heap.user - size) (st.heap.allocated - sized) st.heap }) arena words) class-is
         (record {
           number_is = refl;
           value_is = ap (λ (x : Released). x.nodes_compared) q;
@@ -171,10 +171,10 @@ module _ (address size align : ℕ) (st : State) where
           → words ≡ ledger_words (length st.ledger) (take i (granted st) ++ drop (suc i) (granted st))
           → released compared (mem heads arena) ≡ release (top st) class address (memory st) → sized ≡ size_of class
           → Says (carried st (releasing address size align st))
-          (record { answer = Done compared; heap = granted_heap heads (st.heap.count - 1) (st.heap.user - size) (st.heap.allocated - sized) st.heap }) arena words
+          (record { answer = Ok compared; heap = granted_heap heads (st.heap.count - 1) (st.heap.user - size) (st.heap.allocated - sized) st.heap }) arena words
       release-says heads arena words compared sized e q z =
           subst (λ (d : Decision). Says (carried st d)
-          (record { answer = Done compared; heap = granted_heap heads (st.heap.count - 1) (st.heap.user - size) (st.heap.allocated - sized) st.heap }) arena words)
+          (record { answer = Ok compared; heap = granted_heap heads (st.heap.count - 1) (st.heap.user - size) (st.heap.allocated - sized) st.heap }) arena words)
           (sym (release-is ∙ there freed aligned class class-is i found)) (freed-says heads arena words compared sized e q z)
 
       -- the words of the request lie in the arena
@@ -187,7 +187,7 @@ module _ (address size align : ℕ) (st : State) where
           omega (arith, g.placed.inside, g.holds)
 
       pub zero-says : (to : ℕ) (words : List ℕ) → to ≡ address / 8 + (size + 7) / 8 → words ≡ replicate (length (mid_of (address / 8) (to - address / 8) st.arena)) 0
-          → Says (carried st (zeroing address size align st)) (record { answer = Done 0; heap = st.heap }) (put_mid (address / 8) (to - address / 8) st.arena words) st.ledger
+          → Says (carried st (zeroing address size align st)) (record { answer = Ok 0; heap = st.heap }) (put_mid (address / 8) (to - address / 8) st.arena words) st.ledger
       zero-says to words t e =
           let n : to - address / 8 ≡ (size + 7) / 8 = omega arith in
           let long : length (mid_of (address / 8) ((size + 7) / 8) st.arena) ≡ (size + 7) / 8 =

@@ -5,7 +5,7 @@ ghost use Rattle.heap_state.specs.State.{state, Says};
 ghost use Rattle.heap_release.specs.Releasing.{releasing, zeroing};
 ghost use Rattle.heap_core.specs.Deciding.{carried};
 
-use answers::{Answer, Refusal};
+use answers::Refusal;
 use heap_core::{class_for, refused};
 use heap_state::{Heap, Reply};
 use ledger::Found;
@@ -37,7 +37,7 @@ pub fn release_bytes(
     g.user = h.user - size;
     g.allocated = h.allocated - blocks::size_of(class);
     Reply {
-        answer: Answer::Done(compared),
+        answer: Ok(compared),
         heap: g,
     }
 }
@@ -66,7 +66,7 @@ pub fn zero_bytes(
     let to = from + ((size + 7) / 8) as usize;
     words::clear(&mut arena[from..to]);
     Reply {
-        answer: Answer::Done(0),
+        answer: Ok(0),
         heap: h,
     }
 }

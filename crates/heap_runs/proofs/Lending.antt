@@ -5,7 +5,7 @@ use mathlib.Core.Path.{◌≡◌, refl, sym, ap, ◌∙◌}
 use Prim.Native.Nat.{ℕ, suc, ◌-◌, ◌<◌, ◌≤◌}
 use native.Mathlib.Omega.{arith}
 use lib.ListN.{length, take, drop, get_or, length-append, length-drop, take-append-drop}
-use Rattle.answers.specs.declared.Answer.TheVariants.{Refused}
+use Rattle.std.specs.Prelude.{Err}
 use Rattle.answers.specs.declared.Refusal.TheVariants.{BadState}
 use Rattle.answers.specs.Paper.{paper}
 use Rattle.texts.specs.Text.{decimal, line_feed}
@@ -117,7 +117,7 @@ pub does-stats : (lent : Lent) (arena ledger : List ℕ) (line : Printed) → Fi
 unfolding after printed
 does-stats lent arena ledger line l = record { machine_is = refl; line_is = l.line_is; long_is = l.long_is }
 
-pub lists-unsound : (class : ℕ) (s : State) → is_sound s ≡ false → Lists class s (Printed·reply (Refused BadState))
+pub lists-unsound : (class : ℕ) (s : State) → is_sound s ≡ false → Lists class s (Printed·reply (Err BadState))
 lists-unsound class s e = record { line_is = sym (ap (λ (t : Bool). listed t (list class (memory s))) e); long_is = sym e }
 
 pub lists-sound : (class : ℕ) (s : State) (head count : ℕ) → is_sound s ≡ true → head ≡ get_or s.heap.heads class 0

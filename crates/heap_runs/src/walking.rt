@@ -6,7 +6,7 @@ ghost use Rattle.heap_runs.specs.Run.{machine, Fits};
 ghost use Rattle.heap_runs.specs.Running.{Does, Lists};
 
 use crate::{Lent, Printed, Ran};
-use answers::{Answer, Refusal};
+use answers::Refusal;
 use heap_lines::Command;
 use heap_reader::{first, following};
 use heap_state::Heap;
@@ -32,7 +32,7 @@ fn nodes_of(class: u64, heap: Heap, arena: &[u64], ledger: &[u64]) -> Printed
 {
     let start = first(heap, arena, ledger, class);
     if start.number != 0 {
-        return Printed::Reply(Answer::Refused(Refusal::BadState));
+        return Printed::Reply(Err(Refusal::BadState));
     }
     Printed::Nodes(start.node, count_nodes(start.node, arena))
 }

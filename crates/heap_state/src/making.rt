@@ -4,7 +4,7 @@ ghost use Rattle.heap_state.specs.State.{Says, making, fresh_heap};
 
 use super::ranges::{lengths_ok, order_ok};
 use super::{Heap, Reply};
-use answers::{Answer, Refusal};
+use answers::Refusal;
 use words::clear;
 
 impl Heap {
@@ -21,19 +21,19 @@ impl Heap {
     {
         if !order_ok(order) {
             return Reply {
-                answer: Answer::Refused(Refusal::BadOrder),
+                answer: Err(Refusal::BadOrder),
                 heap: fresh(0),
             };
         }
         if !lengths_ok(arena.len(), ledger.len()) {
             return Reply {
-                answer: Answer::Refused(Refusal::BadSize),
+                answer: Err(Refusal::BadSize),
                 heap: fresh(0),
             };
         }
         clear(ledger);
         Reply {
-            answer: Answer::Done(0),
+            answer: Ok(0),
             heap: fresh(order),
         }
     }

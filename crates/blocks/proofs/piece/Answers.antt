@@ -16,12 +16,12 @@ pub returns-then-start-eq0 : goal.returns-then-start-eq0
 returns-then-start-eq0 c =
     let top = c.args.top in
     let left = c.args.left in
-    rw c.if-start-eq0.true (least-at-0 top left c.least-within.ensures c.prev_power_of_two.ensures c.size_of-most.ensures)
+    rw c.if-start-eq0.true (least-at-0 top left c.min-within.ensures c.prev_power_of_two.ensures c.size_of.ensures)
 
 pub returns : goal.returns
 returns c =
     let top = c.args.top in
     let start = c.args.start in
     let left = c.args.left in
-    least-above-0 top start left (omega arith) c.least.ensures c.lowest_bit.ensures c.least-within.ensures
-    c.prev_power_of_two.ensures c.size_of-most.ensures
+    least-above-0 top start left (omega arith) c.min.ensures c.lowest_bit.ensures c.min-within.ensures
+    c.prev_power_of_two.ensures c.size_of.ensures

@@ -23,7 +23,7 @@ returns-then-order-class c =
     let a = c.args in
     let g = sound-fact a.t.now c.requires.0 in
     let o = c.order_of-order.ensures in
-    rw c.in-Class.is (too_large a.t.now c.requires.0 c.in-Class.class (omega (arith, c.if-order-class.true)))
+    rw c.in-Some.is (too_large a.t.now c.requires.0 c.in-Some.class (omega (arith, c.if-order-class.true)))
 
 pub pick-requires : goal.pick-requires
 pick-requires c =
@@ -36,51 +36,51 @@ returns-in_default-pick c =
     let a = c.args in
     let g = sound-fact a.t.now c.requires.0 in
     let o = c.order_of-order.ensures in
-    let f = c.pick.ensures ∙ ap (λ (n : ℕ). smallest (n - c.in-Class.class) c.in-Class.class 0 (blocks_of a.t.now)) o in
+    let f = c.pick.ensures ∙ ap (λ (n : ℕ). smallest (n - c.in-Some.class) c.in-Some.class 0 (blocks_of a.t.now)) o in
     let l = c.if-order-class.false in
-    rw c.in-Class.is (no_block a.t.now c.requires.0 c.in-Class.class (omega arith) c.pick.result f c.in_default-pick.is)
+    rw c.in-Some.is (no_block a.t.now c.requires.0 c.in-Some.class (omega arith) c.pick.result f c.in_default-pick.is)
 
 pub overflow_add-i : goal.overflow_add-i
 overflow_add-i c =
     let a = c.args in
     let g = sound-fact a.t.now c.requires.0 in
     let o = c.order_of-order.ensures in
-    let f = c.pick.ensures ∙ ap (λ (n : ℕ). smallest (n - c.in-Class.class) c.in-Class.class 0 (blocks_of a.t.now)) o in
+    let f = c.pick.ensures ∙ ap (λ (n : ℕ). smallest (n - c.in-Some.class) c.in-Some.class 0 (blocks_of a.t.now)) o in
     let l = c.if-order-class.false in
-    omega (arith, here a.t.now c.requires.0 c.in-Class.class (omega arith) c.pick.result f c.in-At.i c.in-At.is)
+    omega (arith, here a.t.now c.requires.0 c.in-Some.class (omega arith) c.pick.result f c.in-At.i c.in-At.is)
 
 pub offset_bounds-t-i : goal.offset_bounds-t-i
 offset_bounds-t-i c =
     let a = c.args in
     let g = sound-fact a.t.now c.requires.0 in
     let o = c.order_of-order.ensures in
-    let f = c.pick.ensures ∙ ap (λ (n : ℕ). smallest (n - c.in-Class.class) c.in-Class.class 0 (blocks_of a.t.now)) o in
+    let f = c.pick.ensures ∙ ap (λ (n : ℕ). smallest (n - c.in-Some.class) c.in-Some.class 0 (blocks_of a.t.now)) o in
     let l = c.if-order-class.false in
-    omega (arith, here a.t.now c.requires.0 c.in-Class.class (omega arith) c.pick.result f c.in-At.i c.in-At.is)
+    omega (arith, here a.t.now c.requires.0 c.in-Some.class (omega arith) c.pick.result f c.in-At.i c.in-At.is)
 
 pub bounds-t-i : goal.bounds-t-i
 bounds-t-i c =
     let a = c.args in
     let g = sound-fact a.t.now c.requires.0 in
     let o = c.order_of-order.ensures in
-    let f = c.pick.ensures ∙ ap (λ (n : ℕ). smallest (n - c.in-Class.class) c.in-Class.class 0 (blocks_of a.t.now)) o in
+    let f = c.pick.ensures ∙ ap (λ (n : ℕ). smallest (n - c.in-Some.class) c.in-Some.class 0 (blocks_of a.t.now)) o in
     let l = c.if-order-class.false in
-    omega (arith, here a.t.now c.requires.0 c.in-Class.class (omega arith) c.pick.result f c.in-At.i c.in-At.is)
+    omega (arith, here a.t.now c.requires.0 c.in-Some.class (omega arith) c.pick.result f c.in-At.i c.in-At.is)
 
 pub halve-requires : goal.halve-requires
 halve-requires c =
     let a = c.args in
     let g = sound-fact a.t.now c.requires.0 in
     let o = c.order_of-order.ensures in
-    let f = c.pick.ensures ∙ ap (λ (n : ℕ). smallest (n - c.in-Class.class) c.in-Class.class 0 (blocks_of a.t.now)) o in
+    let f = c.pick.ensures ∙ ap (λ (n : ℕ). smallest (n - c.in-Some.class) c.in-Some.class 0 (blocks_of a.t.now)) o in
     let l = c.if-order-class.false in
-    halvable a.t.now c.requires.0 c.in-Class.class (omega arith) c.pick.result f c.in-At.i c.in-At.is
+    halvable a.t.now c.requires.0 c.in-Some.class (omega arith) c.pick.result f c.in-At.i c.in-At.is
 
 pub returns : goal.returns
 returns c =
     let a = c.args in
     let g = sound-fact a.t.now c.requires.0 in
     let o = c.order_of-order.ensures in
-    let f = c.pick.ensures ∙ ap (λ (n : ℕ). smallest (n - c.in-Class.class) c.in-Class.class 0 (blocks_of a.t.now)) o in
+    let f = c.pick.ensures ∙ ap (λ (n : ℕ). smallest (n - c.in-Some.class) c.in-Some.class 0 (blocks_of a.t.now)) o in
     let l = c.if-order-class.false in
-    rw c.in-Class.is (granted-from a.t.now c.requires.0 c.in-Class.class (omega arith) c.pick.result f c.in-At.i c.in-At.is c.start_of-lowest.result c.start_of-lowest.ensures c.halve.ensures)
+    rw c.in-Some.is (granted-from a.t.now c.requires.0 c.in-Some.class (omega arith) c.pick.result f c.in-At.i c.in-At.is c.start_of-lowest.result c.start_of-lowest.ensures c.halve.ensures)

@@ -20,7 +20,7 @@ pub returns-then-order_of-class : goal.returns-then-order_of-class
 returns-then-order_of-class c =
     let a = c.args in
     let o = c.order_of.ensures in
-    rw c.in-Class.is (too_large a.t.now c.requires.0 a.start c.in-Class.class (omega (arith, c.if-order_of-class.true)))
+    rw c.in-Some.is (too_large a.t.now c.requires.0 a.start c.in-Some.class (omega (arith, c.if-order_of-class.true)))
 
 pub overflow_sub-frames : goal.overflow_sub-frames
 overflow_sub-frames c =
@@ -28,7 +28,7 @@ overflow_sub-frames c =
     let o = c.order_of.ensures in
     let l = c.if-order_of-class.false in
     let n = c.size_of-frames in
-    omega (arith, frames-fit a.t.now c.requires.0 a.start c.in-Class.class (omega arith) n.result n.ensures)
+    omega (arith, frames-fit a.t.now c.requires.0 a.start c.in-Some.class (omega arith) n.result n.ensures)
 
 pub returns-then-start-frames-ne0 : goal.returns-then-start-frames-ne0
 returns-then-start-frames-ne0 c =
@@ -36,7 +36,7 @@ returns-then-start-frames-ne0 c =
     let o = c.order_of.ensures in
     let l = c.if-order_of-class.false in
     let n = c.size_of-frames in
-    rw c.in-Class.is (misaligned a.t.now c.requires.0 a.start c.in-Class.class (omega arith) n.result n.ensures c.if-start-frames-ne0.true)
+    rw c.in-Some.is (misaligned a.t.now c.requires.0 a.start c.in-Some.class (omega arith) n.result n.ensures c.if-start-frames-ne0.true)
 
 pub returns-in_default-place : goal.returns-in_default-place
 returns-in_default-place c =
@@ -44,7 +44,7 @@ returns-in_default-place c =
     let o = c.order_of.ensures in
     let l = c.if-order_of-class.false in
     let n = c.size_of-frames in
-    rw c.in-Class.is (in-gap a.t.now c.requires.0 a.start c.in-Class.class (omega arith) n.result n.ensures c.if-start-frames-ne0.false c.in_default-place.field-0 (sym c.place.ensures ∙ c.in_default-place.is))
+    rw c.in-Some.is (in-gap a.t.now c.requires.0 a.start c.in-Some.class (omega arith) n.result n.ensures c.if-start-frames-ne0.false c.in_default-place.field-0 (sym c.place.ensures ∙ c.in_default-place.is))
 
 pub overflow_add-w : goal.overflow_add-w
 overflow_add-w c =
@@ -53,7 +53,7 @@ overflow_add-w c =
     let l = c.if-order_of-class.false in
     let n = c.size_of-frames in
     let e = sym c.place.ensures ∙ c.in-Inside.is in
-    omega (arith, here a.t.now c.requires.0 a.start c.in-Class.class (omega arith) n.result n.ensures c.if-start-frames-ne0.false c.in-Inside.i e)
+    omega (arith, here a.t.now c.requires.0 a.start c.in-Some.class (omega arith) n.result n.ensures c.if-start-frames-ne0.false c.in-Inside.i e)
 
 pub offset_bounds-t-i : goal.offset_bounds-t-i
 offset_bounds-t-i c =
@@ -62,7 +62,7 @@ offset_bounds-t-i c =
     let l = c.if-order_of-class.false in
     let n = c.size_of-frames in
     let e = sym c.place.ensures ∙ c.in-Inside.is in
-    omega (arith, here a.t.now c.requires.0 a.start c.in-Class.class (omega arith) n.result n.ensures c.if-start-frames-ne0.false c.in-Inside.i e)
+    omega (arith, here a.t.now c.requires.0 a.start c.in-Some.class (omega arith) n.result n.ensures c.if-start-frames-ne0.false c.in-Inside.i e)
 
 pub bounds-t-i : goal.bounds-t-i
 bounds-t-i c =
@@ -71,7 +71,7 @@ bounds-t-i c =
     let l = c.if-order_of-class.false in
     let n = c.size_of-frames in
     let e = sym c.place.ensures ∙ c.in-Inside.is in
-    omega (arith, here a.t.now c.requires.0 a.start c.in-Class.class (omega arith) n.result n.ensures c.if-start-frames-ne0.false c.in-Inside.i e)
+    omega (arith, here a.t.now c.requires.0 a.start c.in-Some.class (omega arith) n.result n.ensures c.if-start-frames-ne0.false c.in-Inside.i e)
 
 pub returns-then-w-ge-GRANTED : goal.returns-then-w-ge-GRANTED
 returns-then-w-ge-GRANTED c =
@@ -80,7 +80,7 @@ returns-then-w-ge-GRANTED c =
     let l = c.if-order_of-class.false in
     let n = c.size_of-frames in
     let e = sym c.place.ensures ∙ c.in-Inside.is in
-    rw c.in-Class.is (is-granted a.t.now c.requires.0 a.start c.in-Class.class (omega arith) n.result n.ensures c.if-start-frames-ne0.false c.in-Inside.i e (c.type_inv.t (c.in-Inside.i + 1)).fits c.if-w-ge-GRANTED.true)
+    rw c.in-Some.is (is-granted a.t.now c.requires.0 a.start c.in-Some.class (omega arith) n.result n.ensures c.if-start-frames-ne0.false c.in-Inside.i e (c.type_inv.t (c.in-Inside.i + 1)).fits c.if-w-ge-GRANTED.true)
 
 pub overflow_add-start : goal.overflow_add-start
 overflow_add-start c =
@@ -89,7 +89,7 @@ overflow_add-start c =
     let l = c.if-order_of-class.false in
     let n = c.size_of-frames in
     let e = sym c.place.ensures ∙ c.in-Inside.is in
-    omega (arith, here a.t.now c.requires.0 a.start c.in-Class.class (omega arith) n.result n.ensures c.if-start-frames-ne0.false c.in-Inside.i e, frames-fit a.t.now c.requires.0 a.start c.in-Class.class (omega arith) n.result n.ensures)
+    omega (arith, here a.t.now c.requires.0 a.start c.in-Some.class (omega arith) n.result n.ensures c.if-start-frames-ne0.false c.in-Inside.i e, frames-fit a.t.now c.requires.0 a.start c.in-Some.class (omega arith) n.result n.ensures)
 
 pub returns-then-end_of-start : goal.returns-then-end_of-start
 returns-then-end_of-start c =
@@ -98,7 +98,7 @@ returns-then-end_of-start c =
     let l = c.if-order_of-class.false in
     let n = c.size_of-frames in
     let e = sym c.place.ensures ∙ c.in-Inside.is in
-    rw c.in-Class.is (is-short a.t.now c.requires.0 a.start c.in-Class.class (omega arith) n.result n.ensures c.if-start-frames-ne0.false c.in-Inside.i e (omega (arith, c.if-end_of-start.true, c.end_of.ensures)))
+    rw c.in-Some.is (is-short a.t.now c.requires.0 a.start c.in-Some.class (omega arith) n.result n.ensures c.if-start-frames-ne0.false c.in-Inside.i e (omega (arith, c.if-end_of-start.true, c.end_of.ensures)))
 
 pub halve-requires : goal.halve-requires
 halve-requires c =
@@ -107,7 +107,7 @@ halve-requires c =
     let l = c.if-order_of-class.false in
     let n = c.size_of-frames in
     let e = sym c.place.ensures ∙ c.in-Inside.is in
-    halvable a.t.now c.requires.0 a.start c.in-Class.class (omega arith) n.result n.ensures c.if-start-frames-ne0.false c.in-Inside.i e c.if-w-ge-GRANTED.false (omega (arith, c.if-end_of-start.false, c.end_of.ensures))
+    halvable a.t.now c.requires.0 a.start c.in-Some.class (omega arith) n.result n.ensures c.if-start-frames-ne0.false c.in-Inside.i e c.if-w-ge-GRANTED.false (omega (arith, c.if-end_of-start.false, c.end_of.ensures))
 
 pub returns : goal.returns
 returns c =
@@ -116,4 +116,4 @@ returns c =
     let l = c.if-order_of-class.false in
     let n = c.size_of-frames in
     let e = sym c.place.ensures ∙ c.in-Inside.is in
-    rw c.in-Class.is (granted-at a.t.now c.requires.0 a.start c.in-Class.class (omega arith) n.result n.ensures c.if-start-frames-ne0.false c.in-Inside.i e c.if-w-ge-GRANTED.false (omega (arith, c.if-end_of-start.false, c.end_of.ensures)) c.halve.ensures)
+    rw c.in-Some.is (granted-at a.t.now c.requires.0 a.start c.in-Some.class (omega arith) n.result n.ensures c.if-start-frames-ne0.false c.in-Inside.i e c.if-w-ge-GRANTED.false (omega (arith, c.if-end_of-start.false, c.end_of.ensures)) c.halve.ensures)

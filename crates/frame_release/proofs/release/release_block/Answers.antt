@@ -12,46 +12,46 @@ returns-in_default c =
 pub returns-in_default-place : goal.returns-in_default-place
 returns-in_default-place c =
     let a = c.args in
-    rw c.in-Class.is (in-gap a.t.now c.requires.0 a.start c.in-Class.class c.in_default-place.field-0 (sym c.place.ensures ∙ c.in_default-place.is))
+    rw c.in-Some.is (in-gap a.t.now c.requires.0 a.start c.in-Some.class c.in_default-place.field-0 (sym c.place.ensures ∙ c.in_default-place.is))
 
 pub overflow_add-i : goal.overflow_add-i
 overflow_add-i c =
     let a = c.args in
     let e = sym c.place.ensures ∙ c.in-Inside.is in
     let i = c.in-Inside.i in
-    omega (arith, inside-here a.t.now c.requires.0 a.start c.in-Class.class i e)
+    omega (arith, inside-here a.t.now c.requires.0 a.start c.in-Some.class i e)
 
 pub offset_bounds-t-i : goal.offset_bounds-t-i
 offset_bounds-t-i c =
     let a = c.args in
     let e = sym c.place.ensures ∙ c.in-Inside.is in
     let i = c.in-Inside.i in
-    omega (arith, inside-here a.t.now c.requires.0 a.start c.in-Class.class i e)
+    omega (arith, inside-here a.t.now c.requires.0 a.start c.in-Some.class i e)
 
 pub bounds-t-i : goal.bounds-t-i
 bounds-t-i c =
     let a = c.args in
     let e = sym c.place.ensures ∙ c.in-Inside.is in
     let i = c.in-Inside.i in
-    omega (arith, inside-here a.t.now c.requires.0 a.start c.in-Class.class i e)
+    omega (arith, inside-here a.t.now c.requires.0 a.start c.in-Some.class i e)
 
 pub returns-then-t-i : goal.returns-then-t-i
 returns-then-t-i c =
     let a = c.args in
     let e = sym c.place.ensures ∙ c.in-Inside.is in
     let i = c.in-Inside.i in
-    rw c.in-Class.is (other_word a.t.now c.requires.0 a.start c.in-Class.class i e (omega (arith, c.requires.1, ap wanted c.in-Class.is)) c.record_word.result c.record_word.ensures (λ j. (c.type_inv.t j).fits) c.if-t-i.true)
+    rw c.in-Some.is (other_word a.t.now c.requires.0 a.start c.in-Some.class i e (omega (arith, c.requires.1, ap wanted c.in-Some.is)) c.record_word.result c.record_word.ensures (λ j. (c.type_inv.t j).fits) c.if-t-i.true)
 
 pub release_at-requires : goal.release_at-requires
 release_at-requires c =
     let a = c.args in
     let e = sym c.place.ensures ∙ c.in-Inside.is in
     let i = c.in-Inside.i in
-    releasable a.t.now c.requires.0 a.start c.in-Class.class i e (omega (arith, c.requires.1, ap wanted c.in-Class.is)) c.record_word.result c.record_word.ensures c.if-t-i.false
+    releasable a.t.now c.requires.0 a.start c.in-Some.class i e (omega (arith, c.requires.1, ap wanted c.in-Some.is)) c.record_word.result c.record_word.ensures c.if-t-i.false
 
 pub returns : goal.returns
 returns c =
     let a = c.args in
     let e = sym c.place.ensures ∙ c.in-Inside.is in
     let i = c.in-Inside.i in
-    rw c.in-Class.is (given_back a.t.now c.requires.0 a.start c.in-Class.class i e (omega (arith, c.requires.1, ap wanted c.in-Class.is)) c.record_word.result c.record_word.ensures c.if-t-i.false c.release_at.ensures)
+    rw c.in-Some.is (given_back a.t.now c.requires.0 a.start c.in-Some.class i e (omega (arith, c.requires.1, ap wanted c.in-Some.is)) c.record_word.result c.record_word.ensures c.if-t-i.false c.release_at.ensures)

@@ -9,8 +9,8 @@ returns-in_default c = wanted-above _ (sym c.round_aligned.ensures ∙ c.in_defa
 
 pub returns-then-class-lt3 : goal.returns-then-class-lt3
 returns-then-class-lt3 c =
-    wanted-low _ _ (sym c.round_aligned.ensures ∙ c.in-Class.is) (omega (arith, c.if-class-lt3.true))
+    wanted-low _ _ (sym c.round_aligned.ensures ∙ c.in-Some.is) (omega (arith, c.if-class-lt3.true))
 
 pub returns-else-class-lt3 : goal.returns-else-class-lt3
 returns-else-class-lt3 c =
-    wanted-high _ _ (sym c.round_aligned.ensures ∙ c.in-Class.is) c.if-class-lt3.false
+    wanted-high _ _ (sym c.round_aligned.ensures ∙ c.in-Some.is) c.if-class-lt3.false

@@ -21,7 +21,7 @@ enter-requires c =
     let a = c.args in
     let st = state a.h a.arena.now a.ledger.now in
     let f = fits st a.from a.class a.size c.requires (search rules) in
-    let b = block-is st a.from a.class a.size c.requires (search rules) _ _ _ _ c.take_block-answer.ensures c.in-Done.is in
+    let b = block-is st a.from a.class a.size c.requires (search rules) _ _ _ _ c.take_block-answer.ensures c.in-Ok.is in
     ((a.h.order, kept st (sound-fact _ _ _ c.requires.sound)), c.requires.room, f.class-fits, f.size_fits, omega (arith, f.block-fits, b))
 
 pub overflow_add-g-2 : goal.overflow_add-g-2
@@ -39,4 +39,4 @@ pub returns : goal.returns
 returns c =
     let a = c.args in
     let st = state a.h a.arena.now a.ledger.now in
-    grant-says st a.from a.class a.size c.requires (search rules) _ _ _ _ c.take_block-answer.ensures c.in-Done.is _ _ c.enter.ensures c.size_of.ensures
+    grant-says st a.from a.class a.size c.requires (search rules) _ _ _ _ c.take_block-answer.ensures c.in-Ok.is _ _ c.enter.ensures c.size_of.ensures

@@ -2,12 +2,12 @@
 use Rattle.heap_held.proofs.Crossing.{crossed, made, not_made}
 use Rattle.heap_held.proofs.making.new_settled.Goals as goal
 
-pub returns-in-Done : goal.returns-in-Done
-returns-in-Done c =
+pub returns-in-Ok : goal.returns-in-Ok
+returns-in-Ok c =
     let d = c.new-made in
-    crossed (made _ _ d.result _ _ d.ensures _ c.in-Done.is) c.in_numbers.ensures
+    crossed (made _ _ d.result _ _ d.ensures _ c.in-Ok.is) c.in_numbers.ensures
 
-pub returns-in-Refused : goal.returns-in-Refused
-returns-in-Refused c =
+pub returns-in-Err : goal.returns-in-Err
+returns-in-Err c =
     let d = c.new-made in
-    crossed (not_made _ _ d.result _ _ d.ensures _ c.in-Refused.is) c.in_numbers-in-Refused.ensures
+    crossed (not_made _ _ d.result _ _ d.ensures _ c.in-Err.is) c.in_numbers-in-Err.ensures
