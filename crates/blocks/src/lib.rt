@@ -97,5 +97,6 @@ pub fn piece(start: u64, left: u64, top: u64) -> u64
     if start == 0 {
         return within;
     }
-    lowest_bit(start).min(within)
+    let low = lowest_bit(start);
+    low.min(within)
 }

@@ -4,14 +4,28 @@
 
 #![tactic(auto)]
 
+ghost use Rattle.std.specs.Prelude.{◌≡◌, true, false, OnOk, IfErr};
+ghost use Rattle.answers.specs.declared.Refusal.TheVariants.{BadState};
+ghost use Rattle.table.specs.Sound.{soundb};
 ghost use Rattle.frame.specs.Outcome.{Add, Alloc, AllocAligned, AllocAt, Dealloc, DeallocAligned};
-ghost use Rattle.frame.specs.Told.{Made, Told, Summed};
+ghost use Rattle.frame.specs.Told.{Made, Told};
+
+mod report;
 
 use answers::{Answer, Refusal};
-use frame_core::Figures;
+pub use report::{Report, summary};
 
-// What a summary answers.
-pub type Report = Result<Figures, Refusal>;
+// Refusal 3 where the table is not sound: each call but making asks this first.
+fn checked(t: &[u64]) -> Result<(), Refusal>
+    ensures ok { OnOk result (soundb t.now ≡ true) }
+    ensures err { IfErr result (λ refusal. (refusal ≡ BadState) × (soundb t.now ≡ false)) }
+{
+    if table_scan::sound(t) {
+        Ok(())
+    } else {
+        Err(Refusal::BadState)
+    }
+}
 
 // Makes an empty table of the ORDER over the lent words, whatever they hold.
 pub fn new(t: &mut [u64], order: u64) -> Answer
@@ -38,9 +52,7 @@ pub fn new(t: &mut [u64], order: u64) -> Answer
 pub fn add_frame(t: &mut [u64], start: u64, end: u64) -> Answer
     ensures { Told (Add start end) t.old result t.new }
 {
-    if !table_scan::sound(t) {
-        return Err(Refusal::BadState);
-    }
+    checked(t)?;
     frame_add::add_range(t, start, end)
 }
 
@@ -55,9 +67,7 @@ pub fn insert(t: &mut [u64], start: u64, end: u64) -> Answer
 pub fn alloc(t: &mut [u64], count: u64) -> Answer
     ensures { Told (Alloc count) t.old result t.new }
 {
-    if !table_scan::sound(t) {
-        return Err(Refusal::BadState);
-    }
+    checked(t)?;
     frame_grant::grant_block(t, blocks::round(count))
 }
 
@@ -65,9 +75,7 @@ pub fn alloc(t: &mut [u64], count: u64) -> Answer
 pub fn alloc_at(t: &mut [u64], start: u64, count: u64) -> Answer
     ensures { Told (AllocAt start count) t.old result t.new }
 {
-    if !table_scan::sound(t) {
-        return Err(Refusal::BadState);
-    }
+    checked(t)?;
     frame_grant::grant_run(t, start, blocks::round(count))
 }
 
@@ -75,9 +83,7 @@ pub fn alloc_at(t: &mut [u64], start: u64, count: u64) -> Answer
 pub fn dealloc(t: &mut [u64], start: u64, count: u64) -> Answer
     ensures { Told (Dealloc start count) t.old result t.new }
 {
-    if !table_scan::sound(t) {
-        return Err(Refusal::BadState);
-    }
+    checked(t)?;
     frame_release::release_block(t, start, blocks::round(count))
 }
 
@@ -85,9 +91,7 @@ pub fn dealloc(t: &mut [u64], start: u64, count: u64) -> Answer
 pub fn alloc_aligned(t: &mut [u64], size: u64, align: u64) -> Answer
     ensures { Told (AllocAligned size align) t.old result t.new }
 {
-    if !table_scan::sound(t) {
-        return Err(Refusal::BadState);
-    }
+    checked(t)?;
     if !blocks::is_power_of_two(align) {
         return Err(Refusal::BadAlign);
     }
@@ -98,21 +102,9 @@ pub fn alloc_aligned(t: &mut [u64], size: u64, align: u64) -> Answer
 pub fn dealloc_aligned(t: &mut [u64], start: u64, size: u64, align: u64) -> Answer
     ensures { Told (DeallocAligned start size align) t.old result t.new }
 {
-    if !table_scan::sound(t) {
-        return Err(Refusal::BadState);
-    }
+    checked(t)?;
     if !blocks::is_power_of_two(align) {
         return Err(Refusal::BadAlign);
     }
     frame_release::release_block(t, start, blocks::round_aligned(size, align))
-}
-
-// Frames granted, frames managed, and the size of the largest free block.
-pub fn summary(t: &[u64]) -> Report
-    ensures { Summed t.now result }
-{
-    if !table_scan::sound(t) {
-        return Err(Refusal::BadState);
-    }
-    Ok(frame_core::count_frames(t))
 }

@@ -85,7 +85,7 @@ pub fn release_block(
         let previous = search.previous;
         take_out(heads, arena, k, previous, buddy);
         drop_first(heads, arena, k);
-        low = blocks::least(low, buddy);
+        low = low.min(buddy);
         k += 1;
         push(heads, arena, k, low);
     }

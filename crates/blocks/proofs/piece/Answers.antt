@@ -23,5 +23,5 @@ returns c =
     let top = c.args.top in
     let start = c.args.start in
     let left = c.args.left in
-    least-above-0 top start left (omega arith) c.min.ensures c.lowest_bit.ensures c.min-within.ensures
+    least-above-0 top start left (omega arith) c.min.ensures c.lowest_bit-low.ensures c.min-within.ensures
     c.prev_power_of_two.ensures c.size_of.ensures

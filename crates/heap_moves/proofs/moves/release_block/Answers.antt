@@ -30,7 +30,7 @@ loop-k-preserved c =
     let more = c.loop-k-test.true in
     let asked = c.buddy-buddy.ensures in (
       record {
-        rest = join-hit c.args.top l.k l.low l.compared (mem l.heads l.arena) _ _ c.find-search.result _ _ _ _ more (asked, refl, c.find-search.ensures) (not-false _ c.if-not-search.false) c.take_out.ensures c.drop_first.ensures c.least-low.ensures c.push-in-loop-k.ensures ∙ l.invariant.0.rest;
+        rest = join-hit c.args.top l.k l.low l.compared (mem l.heads l.arena) _ _ c.find-search.result _ _ _ _ more (asked, refl, c.find-search.ensures) (not-false _ c.if-not-search.false) c.take_out.ensures c.drop_first.ensures c.min-low.ensures c.push-in-loop-k.ensures ∙ l.invariant.0.rest;
         few = omega (arith, looked-few c.args.top l.k l.low l.compared (mem l.heads l.arena) _ _ c.find-search.result (asked, refl, c.find-search.ensures), l.invariant.0.few, l.invariant.0.low-class, l.invariant.1, c.push.auto.arena, c.requires.2);
         low-class = omega (arith, l.invariant.0.low-class);
         is_class = omega (arith, more, c.requires.1);

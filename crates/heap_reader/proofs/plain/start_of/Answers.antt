@@ -12,7 +12,7 @@ pub returns-then-not-sound : goal.returns-then-not-sound
 returns-then-not-sound c =
     let a = c.args in
     let e : soundb a.h a.arena.now a.ledger.now ≡ false = cc in
-    rw (unsound-start a.h a.arena.now a.ledger.now a.class e, c.refusal_number.ensures) refl
+    rw (unsound-start a.h a.arena.now a.ledger.now a.class e, c.from.ensures) refl
 
 pub returns-then-class-lt-CLASSES : goal.returns-then-class-lt-CLASSES
 returns-then-class-lt-CLASSES c =

@@ -9,8 +9,9 @@ use Rattle.table.specs.Sound.{soundb}
 use Rattle.table.proofs.State.{table_is}
 use Rattle.frame_core.specs.Carried.{Says}
 use Rattle.frame_core.specs.Tally.{Tallied}
+use Rattle.std.proofs.lemmas.Result.{err_from_is_err_and}
 use Rattle.frame.specs.Outcome.{Summary, outcome, decide}
-use Rattle.frame.proofs.summary.Goals as goal
+use Rattle.frame.proofs.report.summary.Goals as goal
 
 refused : (ws : List ℕ) → soundb ws ≡ false → Says (outcome Summary ws) (record { number = 3; values = 0 ∷ 0 ∷ 0 ∷ [] }) ws
 unfolding outcome
@@ -26,13 +27,12 @@ summed ws sound fits g m l t =
       words = table_is ws sound fits;
     })
 
-pub returns-then-not-sound : goal.returns-then-not-sound
-returns-then-not-sound c = refused c.args.t.now (sym c.sound.ensures ∙ c.if-not-sound.true)
-
-pub count_frames-requires : goal.count_frames-requires
-count_frames-requires c = sym c.sound.ensures ∙ c.if-not-sound.false
+pub returns-in_err-checked : goal.returns-in_err-checked
+returns-in_err-checked c =
+    let p = err_from_is_err_and c.from_residual.result c.from_residual.ensures.1 in
+    rw (p.1, p.2, c.in_err-checked.ensures.err.0) (refused c.args.t.now c.in_err-checked.ensures.err.1)
 
 pub returns : goal.returns
 returns c =
-    summed c.args.t.now (sym c.sound.ensures ∙ c.if-not-sound.false) (λ j. (c.type_inv.t j).fits)
+    summed c.args.t.now c.in_ok-checked.ensures.ok (λ j. (c.type_inv.t j).fits)
     _ _ _ c.count_frames.ensures
