@@ -253,7 +253,7 @@ fn finish(
 
 fn main(rt: HostRuntime) -> io::Result<()> {
     let mut t = [0u64; 4096];
-    frame::new(&mut t, 33);
+    let _ = frame::new(&mut t, 33);
     let mut held = [0u8; 81];
     let mut out = [0u8; 4096];
     let mut input = rt.stdin();

@@ -2,62 +2,43 @@
 
 #![tactic(auto)]
 
-ghost use Rattle.heap_state.specs.State.{state};
-ghost use Rattle.heap.specs.Outcome.{Init, AddToHeap, Alloc, Dealloc, ZeroFill, outcome};
-ghost use Rattle.heap_held.specs.Crossed.{Crossed, making_over};
+ghost use Rattle.heap_state.specs.State.{state, Says};
+ghost use Rattle.heap.specs.Outcome.{Init, AddToHeap, Alloc, Dealloc, ZeroFill};
+ghost use Rattle.heap.specs.Told.{Told};
+ghost use Rattle.heap_held.specs.Held.{making_over};
 
-use heap_held::{
-    Settled, lavikety_heap_add, lavikety_heap_alloc, lavikety_heap_dealloc, lavikety_heap_init,
-    lavikety_heap_new, lavikety_heap_zero,
-};
-use heap_state::Heap;
+use heap_state::{Heap, Reply};
 
-pub fn new(h: Heap, arena: &[u64], ledger: &mut [u64], order: u64) -> Settled
-    ensures { Crossed (making_over order (state h arena.now ledger.old)) result.number result.value result.heap arena.now ledger.new }
+pub fn new(h: Heap, arena: &[u64], ledger: &mut [u64], order: u64) -> Reply
+    ensures { Says (making_over order (state h arena.now ledger.old)) result arena.now ledger.new }
 {
     let mut heap = h;
-    let a = lavikety_heap_new(&mut heap, arena, ledger, order);
-    Settled {
-        number: a.number,
-        value: a.value,
-        heap,
-    }
+    let answer = heap_held::new(&mut heap, arena, ledger, order);
+    Reply { answer, heap }
 }
 
-pub fn init(h: Heap, arena: &mut [u64], ledger: &[u64], start: u64, size: u64) -> Settled
-    ensures { Crossed (outcome (Init start size) (state h arena.old ledger.now)) result.number result.value result.heap arena.new ledger.now }
+pub fn init(h: Heap, arena: &mut [u64], ledger: &[u64], start: u64, size: u64) -> Reply
+    ensures { Told (Init start size) (state h arena.old ledger.now) result arena.new ledger.now }
 {
     let mut heap = h;
-    let a = lavikety_heap_init(&mut heap, arena, ledger, start, size);
-    Settled {
-        number: a.number,
-        value: a.value,
-        heap,
-    }
+    let answer = heap_held::init(&mut heap, arena, ledger, start, size);
+    Reply { answer, heap }
 }
 
-pub fn add(h: Heap, arena: &mut [u64], ledger: &[u64], start: u64, end: u64) -> Settled
-    ensures { Crossed (outcome (AddToHeap start end) (state h arena.old ledger.now)) result.number result.value result.heap arena.new ledger.now }
+pub fn add(h: Heap, arena: &mut [u64], ledger: &[u64], start: u64, end: u64) -> Reply
+    ensures { Told (AddToHeap start end) (state h arena.old ledger.now) result arena.new ledger.now }
 {
     let mut heap = h;
-    let a = lavikety_heap_add(&mut heap, arena, ledger, start, end);
-    Settled {
-        number: a.number,
-        value: a.value,
-        heap,
-    }
+    let answer = heap_held::add_to_heap(&mut heap, arena, ledger, start, end);
+    Reply { answer, heap }
 }
 
-pub fn alloc(h: Heap, arena: &mut [u64], ledger: &mut [u64], size: u64, align: u64) -> Settled
-    ensures { Crossed (outcome (Alloc size align) (state h arena.old ledger.old)) result.number result.value result.heap arena.new ledger.new }
+pub fn alloc(h: Heap, arena: &mut [u64], ledger: &mut [u64], size: u64, align: u64) -> Reply
+    ensures { Told (Alloc size align) (state h arena.old ledger.old) result arena.new ledger.new }
 {
     let mut heap = h;
-    let a = lavikety_heap_alloc(&mut heap, arena, ledger, size, align);
-    Settled {
-        number: a.number,
-        value: a.value,
-        heap,
-    }
+    let answer = heap_held::alloc(&mut heap, arena, ledger, size, align);
+    Reply { answer, heap }
 }
 
 pub fn dealloc(
@@ -67,16 +48,12 @@ pub fn dealloc(
     address: u64,
     size: u64,
     align: u64,
-) -> Settled
-    ensures { Crossed (outcome (Dealloc address size align) (state h arena.old ledger.old)) result.number result.value result.heap arena.new ledger.new }
+) -> Reply
+    ensures { Told (Dealloc address size align) (state h arena.old ledger.old) result arena.new ledger.new }
 {
     let mut heap = h;
-    let a = lavikety_heap_dealloc(&mut heap, arena, ledger, address, size, align);
-    Settled {
-        number: a.number,
-        value: a.value,
-        heap,
-    }
+    let answer = heap_held::dealloc(&mut heap, arena, ledger, address, size, align);
+    Reply { answer, heap }
 }
 
 pub fn zero(
@@ -86,14 +63,10 @@ pub fn zero(
     address: u64,
     size: u64,
     align: u64,
-) -> Settled
-    ensures { Crossed (outcome (ZeroFill address size align) (state h arena.old ledger.now)) result.number result.value result.heap arena.new ledger.now }
+) -> Reply
+    ensures { Told (ZeroFill address size align) (state h arena.old ledger.now) result arena.new ledger.now }
 {
     let mut heap = h;
-    let a = lavikety_heap_zero(&mut heap, arena, ledger, address, size, align);
-    Settled {
-        number: a.number,
-        value: a.value,
-        heap,
-    }
+    let answer = heap_held::zero_fill(&mut heap, arena, ledger, address, size, align);
+    Reply { answer, heap }
 }

@@ -1,9 +1,9 @@
 // Adding bytes to a heap, for C.
 ghost use Rattle.heap_state.specs.State.{state};
 ghost use Rattle.heap.specs.Outcome.{Init, AddToHeap, outcome};
-ghost use Rattle.heap_held.specs.Crossed.{Crossed};
+ghost use Rattle.heap_held_c.specs.Crossed.{Crossed};
 
-use answers_c::CAnswer;
+use answers_c::{CAnswer, numbers};
 use heap_state::Heap;
 
 #[unsafe(no_mangle)]
@@ -16,7 +16,7 @@ pub extern "C" fn lavikety_heap_init(
 ) -> CAnswer
     ensures { Crossed (outcome (Init start size) (state heap.old arena.old ledger.now)) result.number result.value heap.new arena.new ledger.now }
 {
-    heap_held::lavikety_heap_init(heap, arena, ledger, start, size)
+    numbers(heap_held::init(heap, arena, ledger, start, size))
 }
 
 #[unsafe(no_mangle)]
@@ -29,5 +29,5 @@ pub extern "C" fn lavikety_heap_add(
 ) -> CAnswer
     ensures { Crossed (outcome (AddToHeap start end) (state heap.old arena.old ledger.now)) result.number result.value heap.new arena.new ledger.now }
 {
-    heap_held::lavikety_heap_add(heap, arena, ledger, start, end)
+    numbers(heap_held::add_to_heap(heap, arena, ledger, start, end))
 }

@@ -1,9 +1,9 @@
 // Granting, releasing and clearing blocks of a heap, for C.
 ghost use Rattle.heap_state.specs.State.{state};
 ghost use Rattle.heap.specs.Outcome.{Alloc, Dealloc, ZeroFill, outcome};
-ghost use Rattle.heap_held.specs.Crossed.{Crossed};
+ghost use Rattle.heap_held_c.specs.Crossed.{Crossed};
 
-use answers_c::CAnswer;
+use answers_c::{CAnswer, numbers};
 use heap_state::Heap;
 
 #[unsafe(no_mangle)]
@@ -16,7 +16,7 @@ pub extern "C" fn lavikety_heap_alloc(
 ) -> CAnswer
     ensures { Crossed (outcome (Alloc size align) (state heap.old arena.old ledger.old)) result.number result.value heap.new arena.new ledger.new }
 {
-    heap_held::lavikety_heap_alloc(heap, arena, ledger, size, align)
+    numbers(heap_held::alloc(heap, arena, ledger, size, align))
 }
 
 #[unsafe(no_mangle)]
@@ -30,7 +30,7 @@ pub extern "C" fn lavikety_heap_dealloc(
 ) -> CAnswer
     ensures { Crossed (outcome (Dealloc address size align) (state heap.old arena.old ledger.old)) result.number result.value heap.new arena.new ledger.new }
 {
-    heap_held::lavikety_heap_dealloc(heap, arena, ledger, address, size, align)
+    numbers(heap_held::dealloc(heap, arena, ledger, address, size, align))
 }
 
 #[unsafe(no_mangle)]
@@ -44,5 +44,5 @@ pub extern "C" fn lavikety_heap_zero(
 ) -> CAnswer
     ensures { Crossed (outcome (ZeroFill address size align) (state heap.old arena.old ledger.now)) result.number result.value heap.new arena.new ledger.now }
 {
-    heap_held::lavikety_heap_zero(heap, arena, ledger, address, size, align)
+    numbers(heap_held::zero_fill(heap, arena, ledger, address, size, align))
 }

@@ -1,4 +1,4 @@
-// The heap for C: what heap_held does with the record held in place, under the names of include/lavikety.h.
+// The heap for C: what heap_held does with the record held in place, its answers as two numbers, under the names of include/lavikety.h.
 
 #![tactic(auto)]
 

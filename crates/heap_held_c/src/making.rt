@@ -1,8 +1,9 @@
 // Making a heap, for C.
 ghost use Rattle.heap_state.specs.State.{state};
-ghost use Rattle.heap_held.specs.Crossed.{Crossed, making_over};
+ghost use Rattle.heap_held.specs.Held.{making_over};
+ghost use Rattle.heap_held_c.specs.Crossed.{Crossed};
 
-use answers_c::CAnswer;
+use answers_c::{CAnswer, numbers};
 use heap_state::Heap;
 
 #[unsafe(no_mangle)]
@@ -14,5 +15,5 @@ pub extern "C" fn lavikety_heap_new(
 ) -> CAnswer
     ensures { Crossed (making_over order (state heap.old arena.now ledger.old)) result.number result.value heap.new arena.now ledger.new }
 {
-    heap_held::lavikety_heap_new(heap, arena, ledger, order)
+    numbers(heap_held::new(heap, arena, ledger, order))
 }

@@ -1,9 +1,9 @@
 // The three counts of a heap, for C.
 ghost use Rattle.heap_state.specs.State.{state};
 ghost use Rattle.heap.specs.Outcome.{StatsAllocUser, StatsAllocActual, StatsTotalBytes, outcome};
-ghost use Rattle.heap_held.specs.Crossed.{Crossed};
+ghost use Rattle.heap_held_c.specs.Crossed.{Crossed};
 
-use answers_c::CAnswer;
+use answers_c::{CAnswer, numbers};
 use heap_state::Heap;
 
 #[unsafe(no_mangle)]
@@ -14,7 +14,7 @@ pub extern "C" fn lavikety_heap_stats_alloc_user(
 ) -> CAnswer
     ensures { Crossed (outcome StatsAllocUser (state heap.now arena.now ledger.now)) result.number result.value heap.now arena.now ledger.now }
 {
-    heap_held::lavikety_heap_stats_alloc_user(heap, arena, ledger)
+    numbers(heap_held::stats_alloc_user(heap, arena, ledger))
 }
 
 #[unsafe(no_mangle)]
@@ -25,7 +25,7 @@ pub extern "C" fn lavikety_heap_stats_alloc_actual(
 ) -> CAnswer
     ensures { Crossed (outcome StatsAllocActual (state heap.now arena.now ledger.now)) result.number result.value heap.now arena.now ledger.now }
 {
-    heap_held::lavikety_heap_stats_alloc_actual(heap, arena, ledger)
+    numbers(heap_held::stats_alloc_actual(heap, arena, ledger))
 }
 
 #[unsafe(no_mangle)]
@@ -36,5 +36,5 @@ pub extern "C" fn lavikety_heap_stats_total_bytes(
 ) -> CAnswer
     ensures { Crossed (outcome StatsTotalBytes (state heap.now arena.now ledger.now)) result.number result.value heap.now arena.now ledger.now }
 {
-    heap_held::lavikety_heap_stats_total_bytes(heap, arena, ledger)
+    numbers(heap_held::stats_total_bytes(heap, arena, ledger))
 }

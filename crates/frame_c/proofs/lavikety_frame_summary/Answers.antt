@@ -5,4 +5,4 @@ pub returns-in-Ok : goal.returns-in-Ok
 returns-in-Ok c = rw c.in-Ok.is at c.summary.ensures
 
 pub returns-in-Err : goal.returns-in-Err
-returns-in-Err c = rw c.refusal_number.ensures (rw c.in-Err.is at c.summary.ensures)
+returns-in-Err c = rw c.from.ensures (rw c.in-Err.is at c.summary.ensures)

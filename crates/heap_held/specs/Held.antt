@@ -1,14 +1,13 @@
 -- The promise of a call on a heap whose record is held in place, from docs/RULES.md, "The heap over an arena": "a thin layer holds the heap record in
--- place". What a caller is told are two numbers; what is said of them and of the record is said once, for the record by value and behind a reference.
-use Rattle.std.specs.Prelude.{◌≡◌, List, ℕ, zero, suc}
+-- place". What is said of the answer and of the record is what is said of the same call by value.
+use Rattle.std.specs.Prelude.{List, ℕ, zero, suc}
+use Rattle.answers.specs.Paper.{Answer}
 use Rattle.heap_state.specs.declared.Heap.{Heap}
-use Rattle.heap_state.specs.State.{State, state, Outcome, making}
+use Rattle.heap_state.specs.State.{State, state, Outcome, Says, making}
 
--- these two numbers, and the record and the words of arena and ledger afterwards, are the outcome's
-pub record Crossed (o : Outcome) (number value : ℕ) (heap : Heap) (arena ledger : List ℕ) : Type 0 where
-  pub number_is : number ≡ o.number
-  pub value_is : value ≡ o.value
-  pub state_is : state heap arena ledger ≡ o.state
+-- the answer, and the record and the words of arena and ledger afterwards, are the outcome's
+abbrev pub Held : Outcome → Answer → Heap → List ℕ → List ℕ → Type 0
+Held o a heap arena ledger = Says o (record { answer = a; heap = heap }) arena ledger
 
 -- "Made in place, a refused making keeps the record's words" (docs/DECISIONS.md): number 0 alone is a heap that was made
 abbrev pub kept_unless : ℕ → Heap → Heap → Heap
