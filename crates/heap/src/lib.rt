@@ -9,28 +9,21 @@ ghost use Rattle.heap.specs.Outcome.{Init, AddToHeap, Alloc, Dealloc, ZeroFill, 
 ghost use Rattle.heap.specs.Told.{Told, Read};
 
 use answers::{Answer, Refusal};
+use heap_core::refused;
 use heap_state::{Heap, Reply};
-
-const LARGEST: u64 = 0xffff_ffff_ffff_ffff;
 
 // Adds the `size` bytes from `start` on.
 pub fn init(h: Heap, arena: &mut [u64], ledger: &[u64], start: u64, size: u64) -> Reply
     ensures { Told (Init start size) (state h arena.old ledger.now) result arena.new ledger.now }
 {
     if !heap_sound::sound(h, arena, ledger) {
-        return Reply {
-            answer: Err(Refusal::BadState),
-            heap: h,
-        };
+        return refused(h, Refusal::BadState);
     }
     // an end that is no number of 64 bits is above every arena
-    if LARGEST - start < size {
-        return Reply {
-            answer: Err(Refusal::BadRange),
-            heap: h,
-        };
-    }
-    heap_add::add_range(h, arena, ledger, start, start + size)
+    let Some(past) = start.checked_add(size) else {
+        return refused(h, Refusal::BadRange);
+    };
+    heap_add::add_range(h, arena, ledger, start, past)
 }
 
 // Adds the bytes [start, end).
@@ -38,10 +31,7 @@ pub fn add_to_heap(h: Heap, arena: &mut [u64], ledger: &[u64], start: u64, end: 
     ensures { Told (AddToHeap start end) (state h arena.old ledger.now) result arena.new ledger.now }
 {
     if !heap_sound::sound(h, arena, ledger) {
-        return Reply {
-            answer: Err(Refusal::BadState),
-            heap: h,
-        };
+        return refused(h, Refusal::BadState);
     }
     heap_add::add_range(h, arena, ledger, start, end)
 }
@@ -51,10 +41,7 @@ pub fn alloc(h: Heap, arena: &mut [u64], ledger: &mut [u64], size: u64, align: u
     ensures { Told (Alloc size align) (state h arena.old ledger.old) result arena.new ledger.new }
 {
     if !heap_sound::sound(h, arena, ledger) {
-        return Reply {
-            answer: Err(Refusal::BadState),
-            heap: h,
-        };
+        return refused(h, Refusal::BadState);
     }
     heap_grant::grant_bytes(h, arena, ledger, size, align)
 }
@@ -71,10 +58,7 @@ pub fn dealloc(
     ensures { Told (Dealloc address size align) (state h arena.old ledger.old) result arena.new ledger.new }
 {
     if !heap_sound::sound(h, arena, ledger) {
-        return Reply {
-            answer: Err(Refusal::BadState),
-            heap: h,
-        };
+        return refused(h, Refusal::BadState);
     }
     heap_release::release_bytes(h, arena, ledger, address, size, align)
 }
@@ -91,10 +75,7 @@ pub fn zero_fill(
     ensures { Told (ZeroFill address size align) (state h arena.old ledger.now) result arena.new ledger.now }
 {
     if !heap_sound::sound(h, arena, ledger) {
-        return Reply {
-            answer: Err(Refusal::BadState),
-            heap: h,
-        };
+        return refused(h, Refusal::BadState);
     }
     heap_release::zero_bytes(h, arena, ledger, address, size, align)
 }

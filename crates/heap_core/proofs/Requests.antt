@@ -9,15 +9,6 @@ use Rattle.blocks.specs.Laws.{Least}
 use Rattle.blocks.proofs.Rounding.{least-class, aligned-is}
 use Rattle.heap_core.specs.Deciding.{wanted, class_for}
 
-pub wanted-above : (r : Option ℕ) → r ≡ None → 33 ≡ wanted r
-wanted-above r e = rw e
-
-pub wanted-low : (r : Option ℕ) (k : ℕ) → r ≡ Some k → k < 3 → 3 ≡ wanted r
-wanted-low r k e h = rw e (omega arith)
-
-pub wanted-high : (r : Option ℕ) (k : ℕ) → r ≡ Some k → 3 ≤ k → k ≡ wanted r
-wanted-high r k e h = rw e (omega arith)
-
 pub class-word : (size align : ℕ) → 3 ≤ class_for size align
 class-word size align = go (rounded_aligned size align)
   where

@@ -2,13 +2,9 @@
 ghost use Rattle.std.specs.Prelude.{◌≡◌};
 ghost use Rattle.heap_core.specs.Deciding.{class_for};
 
-
 // The class of a size and an alignment: at least that of a word, and 33, a class of no heap, above every block.
 pub fn class_for(size: u64, align: u64) -> u64
     ensures { result ≡ class_for size align }
 {
-    let Some(class) = blocks::round_aligned(size, align) else {
-        return 33;
-    };
-    if class < 3 { 3 } else { class }
+    blocks::round_aligned(size, align).map_or(33, |class| class.max(3))
 }

@@ -39,12 +39,10 @@ fn first_class(heads: &[u64; 33], class: u64, order: u64) -> u64
     requires { order ≤ 33 }
     ensures { result ≡ first_class (order - class) class (mem heads.now []) }
 {
-    let mut k = class;
-    while k < order {
+    for k in class..order {
         if heads[k as usize] != 0 {
             return k;
         }
-        k += 1;
     }
     33
 }

@@ -6,7 +6,7 @@ use Rattle.heap.proofs.add_to_heap.Goals as goal
 
 pub returns-then-not-sound : goal.returns-then-not-sound
 returns-then-not-sound c =
-    unsound c.args.h c.args.arena.now c.args.ledger.now (AddToHeap c.args.start c.args.end) (sym c.sound.ensures ∙ c.if-not-sound.true)
+    rw c.refused.ensures (unsound c.args.h c.args.arena.now c.args.ledger.now (AddToHeap c.args.start c.args.end) (sym c.sound.ensures ∙ c.if-not-sound.true))
 
 pub add_range-requires : goal.add_range-requires
 add_range-requires c = sym c.sound.ensures ∙ c.if-not-sound.false

@@ -6,7 +6,7 @@ use Rattle.heap.proofs.zero_fill.Goals as goal
 
 pub returns-then-not-sound : goal.returns-then-not-sound
 returns-then-not-sound c =
-    unsound c.args.h c.args.arena.now c.args.ledger.now (ZeroFill c.args.address c.args.size c.args.align) (sym c.sound.ensures ∙ c.if-not-sound.true)
+    rw c.refused.ensures (unsound c.args.h c.args.arena.now c.args.ledger.now (ZeroFill c.args.address c.args.size c.args.align) (sym c.sound.ensures ∙ c.if-not-sound.true))
 
 pub zero_bytes-requires : goal.zero_bytes-requires
 zero_bytes-requires c = sym c.sound.ensures ∙ c.if-not-sound.false

@@ -8,6 +8,3 @@ use Rattle.heap_grant.proofs.grant.first_class.Given as goal
 
 abbrev pub invariant-loop-k : goal.invariant-loop-k
 invariant-loop-k l = first_class (l.order - l.k) l.k (mem l.heads []) ≡ first_class (l.order - l.class) l.class (mem l.heads [])
-
-abbrev pub decreases-loop-k : goal.decreases-loop-k
-decreases-loop-k l = l.order - l.k
