@@ -5,12 +5,8 @@ ghost use Rattle.lines.specs.Pieces.{PieceEnds};
 pub fn piece_end(bytes: &[u8], separator: u8) -> usize
     ensures { PieceEnds separator bytes.now result }
 {
-    let mut i = 0;
-    while i < bytes.len() {
-        if bytes[i] == separator {
-            return i;
-        }
-        i += 1;
-    }
-    i
+    bytes
+        .iter()
+        .position(|b| *b == separator)
+        .unwrap_or(bytes.len())
 }

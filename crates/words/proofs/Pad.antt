@@ -2,7 +2,7 @@
 use mathlib.Core.Path.{◌≡◌, refl, sym, ap, ◌∙◌}
 use mathlib.Core.List.{List, [], ◌∷◌, ◌++◌, append_assoc}
 use Prim.Native.Nat.{ℕ, zero, suc, ◌+◌, ◌-◌, ◌≤◌, ◌<◌}
-use native.Mathlib.Nat.{le_of_suc-le-suc, not-suc-le-zero, suc-add, zero-add, suc-sub-suc, zero-sub, sub-zero}
+use native.Mathlib.Nat.{le_of_suc-le-suc, not-suc-le-zero, suc-add, zero-add, suc-sub-suc, sub-zero}
 use native.Mathlib.Omega.{arith}
 use lib.ListN.{length, take, drop, get_or, replicate}
 use lib.Seq.{take-append-le, drop-append-le}
@@ -35,11 +35,6 @@ pub pad-zeros : (n z : ℕ) → pad n (replicate z 0) ≡ replicate n 0
 pad-zeros zero z = refl
 pad-zeros (suc n) zero = pad-nil (suc n)
 pad-zeros (suc n) (suc z) = ap (λ (l : List ℕ). 0 ∷ l) (pad-zeros n z)
-
-pub drop-zeros : (m z : ℕ) → drop {A = ℕ} m (replicate z 0) ≡ replicate (z - m) 0
-drop-zeros zero z = rw sub-zero
-drop-zeros (suc m) zero = rw zero-sub
-drop-zeros (suc m) (suc z) = rw suc-sub-suc (drop-zeros m z)
 
 -- a list that fits has zeros after it
 pub pad-fits : (n : ℕ) (ws : List ℕ) → length ws ≤ n → pad n ws ≡ ws ++ replicate (n - length ws) 0

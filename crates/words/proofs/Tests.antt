@@ -21,10 +21,6 @@ pub same : (a b : Bool) → (a ≡ true → b ≡ true) → (b ≡ true → a �
 same true b f g = sym (f refl)
 same false b f g = sym (no b (λ e. absurd (clash (g e) refl)))
 
-pub and-true : (a : Bool) → a && true ≡ a
-and-true true = refl
-and-true false = refl
-
 pub and-false : (a : Bool) → a && false ≡ false
 and-false true = refl
 and-false false = refl

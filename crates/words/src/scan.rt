@@ -2,49 +2,24 @@
 ghost use Rattle.std.specs.Prelude.{◌≡◌, drop};
 ghost use Rattle.words.specs.Words.{zerosb};
 
-// The words from from on are zero. Two rows of ors do not wait for each other, which pays where there are many.
+// The words from from on are zero. They are or-ed in two halves, whose rows of ors do not wait for each other.
 pub fn zeros_from(t: &[u64], from: usize) -> bool
     ensures { result ≡ zerosb (drop from t.now) }
 {
-    if t.len() < 256 {
-        return zeros_one_row(t, from);
-    }
-    zeros_two_rows(t, from)
-}
-
-fn zeros_one_row(t: &[u64], from: usize) -> bool
-    ensures { result ≡ zerosb (drop from t.now) }
-{
-    let mut row: u64 = 0;
-    let mut i = from;
-    while i < t.len() {
-        row = row | t[i];
-        i += 1;
-    }
-    row == 0
-}
-
-// The words are two halves, and one more where their number is odd.
-fn zeros_two_rows(t: &[u64], from: usize) -> bool
-    ensures { result ≡ zerosb (drop from t.now) }
-{
-    let n = t.len();
-    if from >= n {
+    let Some(ws) = t.get(from..) else {
         return true;
-    }
-    let half = (n - from) / 2;
-    let mid = from + half;
+    };
+    let (left, right) = ws.split_at(ws.len() / 2);
     let mut a: u64 = 0;
     let mut b: u64 = 0;
-    let mut i = from;
-    while i < mid {
-        a = a | t[i];
-        b = b | t[i + half];
-        i += 1;
+    // not a `zip`, whose loop is slower
+    for (i, w) in left.iter().enumerate() {
+        a |= *w;
+        b |= right[i];
     }
-    let odd = i + half;
-    if odd < n {
-        return (a | (b | t[odd])) == 0;
+    // where the number of words is odd, the second half has one more
+    if left.len() < right.len() {
+        b |= right[left.len()];
     }
     (a | b) == 0
 }

@@ -1,26 +1,21 @@
--- `lines::pieces::piece_end` meets its contract. The loop's invariant: no byte that was passed is the separator. Assumes nothing.
-use borrow.Author.Count.{below_none, below_more}
+-- `lines::pieces::piece_end` meets its contract: no byte before the first separator is one. Assumes nothing.
+use mathlib.Core.Path.{◌≡◌, ap, ◌∙◌}
 use borrow.Author.Rules.{rules}
-use native.Mathlib.Omega.{arith}
-use Rattle.lines.proofs.Cutting.{cut_at}
+use lib.Dec.{eqb}
+use lib.ListN.{length}
+use Prim.Native.Nat.{ℕ}
+use Rattle.std.specs.List.{position}
+use Rattle.std.specs.Option.{unwrap_or}
+use Rattle.std.specs.Prelude.{Option}
+use Rattle.std.proofs.lemmas.Iterator.{YieldsList-from_slice}
+use Rattle.std.proofs.lemmas.Iterator.Search.{position_from_yields_List}
+use Rattle.std.proofs.Common.{tests}
+use Rattle.lines.proofs.Cutting.{first-piece}
 use Rattle.lines.proofs.pieces.piece_end.Goals as goal
 
--- src/pieces.rt:9:5
-pub loop-i-init : goal.loop-i-init
-loop-i-init c = (search rules, below_none _)
-
--- src/pieces.rt:11:13
-pub returns-then-bytes-i : goal.returns-then-bytes-i
-returns-then-bytes-i c =
-    let l = c.loop-i in
-    record { within = search rules; pieces = cut_at _ _ _ (search rules) l.invariant.1 (λ h. c.if-bytes-i.true) }
-
--- src/pieces.rt:9:5
-pub loop-i-preserved : goal.loop-i-preserved
-loop-i-preserved c = (search rules, below_more _ _ c.loop-i.invariant.1 c.if-bytes-i.false)
-
--- src/pieces.rt:5:1
 pub returns : goal.returns
 returns c =
-    let l = c.loop-i in
-    record { within = search rules; pieces = cut_at _ _ _ (search rules) l.invariant.1 (λ h. absurd (omega (arith, h))) }
+    let a = c.args in
+    let found : c.position.result ≡ position (λ (b : ℕ). eqb b a.separator) a.bytes.now =
+    position_from_yields_List (λ (b : ℕ). eqb b a.separator) _ _ c.position.result c.position.ensures.ran (YieldsList-from_slice _ c.iter.ensures.rest) (λ x b q k. search (rules, tests)) in
+    first-piece a.separator a.bytes.now c.unwrap_or.result (c.unwrap_or.ensures ∙ ap (λ (o : Option ℕ). unwrap_or o (length a.bytes.now)) found)
