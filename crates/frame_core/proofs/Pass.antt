@@ -1,18 +1,13 @@
 -- The pass over the records that finds the block which serves a grant: one record at a time. Assumes nothing.
-use Rattle.std.proofs.Common.{◌≡◌, ℕ, ◌+◌, ◌-◌, ◌%◌, ◌^◌, ◌<◌, ◌≤◌, Bool, true, false, ◌&&◌, eqb, ltb, leb, List, ◌∷◌, length, get_or, sym, refl, ap, ◌∙◌, true≢false, arith, ltb-false, ltb-true, le-ltb, lt-ltb, ne_eqb, leb-false, leb-true}
+use Rattle.std.proofs.Common.{◌≡◌, ℕ, ◌+◌, ◌-◌, ◌%◌, ◌^◌, ◌<◌, ◌≤◌, Bool, true, false, ◌&&◌, eqb, ltb, leb, List, [], ◌∷◌, map, drop, length, get_or, sym, refl, ap, ◌∙◌, true≢false, arith, ltb-false, ltb-true, le-ltb, lt-ltb, ne_eqb, leb-false, leb-true, Option, Some, None}
 use borrow.Author.Tests.{eqb-false}
+use Rattle.std.proofs.lemmas.List.{drop_all}
 use Rattle.rules.specs.Rules.{Block, blk, smallest, or_else, free_in}
-use Rattle.rules.specs.declared.Found.{Found}
-use Rattle.rules.specs.declared.Found.TheVariants.{At, Nowhere}
 use Rattle.rules.proofs.Serving.{better, not-better, other-class, or_else-assoc, none_left}
-use Rattle.table.specs.Layout.{count_of, mark_of, class_of, start_of, block_of, blocks_of}
+use Rattle.table.specs.Layout.{mark_of, class_of, start_of, block_of}
 use Rattle.words.proofs.Tests.{both}
 use Rattle.frame_core.specs.Pick.{key_of, betterb}
-use Rattle.frame_core.proofs.Records.{from, from_step, from-none}
-
--- the best so far: the record at place `at`, of class low, or none while low is still order
-abbrev pub held : ℕ → ℕ → ℕ → Found
-held order low at = elim (ltb low order) [ true ↦ At at | false ↦ Nowhere ]
+use Rattle.frame_core.proofs.Records.{from_step}
 
 -- the two tests by one: a key that is too small wraps far above every class
 pub one-test : (class low w d : ℕ) → class ≤ low → low ≤ 64 → w < 2 ^ 64 → d < 2 ^ 64 → (d + class) % 2 ^ 64 ≡ key_of w → ltb d (low - class) ≡ betterb class low w
@@ -38,25 +33,22 @@ large class low w h e =
     omega (arith, leb-true class (key_of w) p.0, ltb-true (key_of w) low p.1)
 
 -- a record that is better takes the place of the best so far
-pub hit : (order low class at i w : ℕ) (r : List Block) → low ≤ order → order ≤ 64 → betterb class low w ≡ true
-    → or_else (smallest (low - class) class i (block_of w ∷ r)) (held order low at) ≡ or_else (smallest (class_of w - class) class (i + 1) r) (held order (class_of w) i)
+hit : (class low i w : ℕ) (r : List Block) (best : Option ℕ) → low ≤ 64 → betterb class low w ≡ true
+    → or_else (smallest (low - class) class i (block_of w ∷ r)) best ≡ or_else (smallest (class_of w - class) class (i + 1) r) (Some i)
 unfolding betterb
-hit order low class at i w r h o e =
+hit class low i w r best h e =
     let p = both (leb class (key_of w)) (ltb (key_of w) low) e in
     let a : class ≤ key_of w = leb-true class (key_of w) p.0 in
     let b : key_of w < low = ltb-true (key_of w) low p.1 in
     let k : class_of w ≡ class + (class_of w - class) = omega arith in
     let z : eqb (mark_of w) 1 ≡ false = ne_eqb (mark_of w) 1 (λ q. omega arith) in
     let f : block_of w ≡ blk false (class + (class_of w - class)) (start_of w) = ap (λ (g : Bool). blk g (class_of w) (start_of w)) z ∙ ap (λ (c : ℕ). blk false c (start_of w)) k in
-    let l : class_of w < order = omega arith in
-    let s : Found = smallest (class_of w - class) class (i + 1) r in
-    ap (λ (x : Block). or_else (smallest (low - class) class i (x ∷ r)) (held order low at)) f
-    ∙ ap (λ (x : Found). or_else x (held order low at)) (better (low - class) class (class_of w - class) i (start_of w) r (omega arith))
-    ∙ or_else-assoc s (At i) (held order low at)
-    ∙ ap (or_else s) (sym (rw (lt-ltb (class_of w) order l, held) refl))
+    ap (λ (x : Block). or_else (smallest (low - class) class i (x ∷ r)) best) f
+    ∙ ap (λ (x : Option ℕ). or_else x best) (better (low - class) class (class_of w - class) i (start_of w) r (omega arith))
+    ∙ or_else-assoc (smallest (class_of w - class) class (i + 1) r) (Some i) best
 
 -- one that is not is passed over
-pub miss : (low class i w : ℕ) (r : List Block) → w < 2 ^ 64 → betterb class low w ≡ false → smallest (low - class) class i (block_of w ∷ r) ≡ smallest (low - class) class (i + 1) r
+miss : (low class i w : ℕ) (r : List Block) → w < 2 ^ 64 → betterb class low w ≡ false → smallest (low - class) class i (block_of w ∷ r) ≡ smallest (low - class) class (i + 1) r
 unfolding betterb
 miss low class i w r h e = not-better (low - class) class i (block_of w) r (λ k l g. other k l g (eqb (mark_of w) 1) refl)
   where
@@ -73,46 +65,48 @@ miss low class i w r h e = not-better (low - class) class i (block_of w) r (λ k
         ap (λ (x : Bool). free_in k (blk x (class_of w) (start_of w))) q
         ∙ other-class k (class_of w) (start_of w) (apart k l g (omega arith) (leb class (key_of w)) (ltb (key_of w) low) refl refl e)
 
--- ---- the pass: how it begins, goes on and ends
+-- ---- the pass over the records ws: those from place i on give a better block, or else the best so far is what they all give
 
-or_else-nowhere : (f : Found) → or_else f Nowhere ≡ f
-or_else-nowhere (At i) = refl
-or_else-nowhere Nowhere = refl
+pub record Passing (order class low i : ℕ) (best : Option ℕ) (ws : List ℕ) : Type 0 where
+  pub reach : class ≤ low
+  pub small : low ≤ 64
+  pub left : or_else (smallest (low - class) class i (map block_of (drop i ws))) best ≡ smallest (order - class) class 0 (map block_of ws)
 
-pub begins : (order class count at : ℕ) (t : List ℕ) → count ≡ count_of (get_or t 0 0)
-    → or_else (smallest (order - class) class 0 (from t 0 count)) (held order order at) ≡ smallest (order - class) class 0 (blocks_of t)
-begins order class count at t e =
-    ap (or_else (smallest (order - class) class 0 (from t 0 count))) (rw (le-ltb order order (omega arith), held) refl)
-    ∙ or_else-nowhere (smallest (order - class) class 0 (from t 0 count))
-    ∙ ap (λ (n : ℕ). smallest (order - class) class 0 (from t 0 n)) e
+or_else-none : (f : Option ℕ) → or_else f None ≡ f
+or_else-none (Some i) = refl
+or_else-none None = refl
 
-module _ (t : List ℕ) (order class low at i count : ℕ) (h : i < count) (l : count < length t) where
-  pub takes : low ≤ order → order ≤ 64 → betterb class low (get_or t (i + 1) 0) ≡ true → (k : ℕ) → k ≡ class_of (get_or t (i + 1) 0)
-      → or_else (smallest (low - class) class i (from t i count)) (held order low at) ≡ or_else (smallest (k - class) class (i + 1) (from t (i + 1) count)) (held order k i)
-  takes o p b k e =
-      ap (λ (r : List Block). or_else (smallest (low - class) class i r) (held order low at)) (from_step t i count h l)
-      ∙ hit order low class at i (get_or t (i + 1) 0) (from t (i + 1) count) o p b
-      ∙ ap (λ (n : ℕ). or_else (smallest (n - class) class (i + 1) (from t (i + 1) count)) (held order n i)) (sym e)
+pub begins : (order class : ℕ) (ws : List ℕ) → class < order → order ≤ 64 → Passing order class order 0 None ws
+begins order class ws h l = record { reach = omega arith; small = l; left = or_else-none (smallest (order - class) class 0 (map block_of ws)) }
 
-  pub passes : get_or t (i + 1) 0 < 2 ^ 64 → betterb class low (get_or t (i + 1) 0) ≡ false
-      → or_else (smallest (low - class) class i (from t i count)) (held order low at) ≡ or_else (smallest (low - class) class (i + 1) (from t (i + 1) count)) (held order low at)
-  passes w b =
-      ap (λ (r : List Block). or_else (smallest (low - class) class i r) (held order low at)) (from_step t i count h l)
-      ∙ ap (λ (f : Found). or_else f (held order low at)) (miss low class i (get_or t (i + 1) 0) (from t (i + 1) count) w b)
+module _ {order class low i : ℕ} {best : Option ℕ} {ws : List ℕ} (p : Passing order class low i best ws) where
+  module _ (h : i < length ws) where
+    pub takes : betterb class low (get_or ws i 0) ≡ true → (k : ℕ) → k ≡ class_of (get_or ws i 0) → Passing order class k (i + 1) (Some i) ws
+    takes b k e =
+        let w : ℕ = get_or ws i 0 in
+        record {
+          reach = omega (arith, large class low w p.small b);
+          small = omega (arith, lower class low w p.small b, p.small);
+          left = ap (λ (n : ℕ). or_else (smallest (n - class) class (i + 1) (map block_of (drop (i + 1) ws))) (Some i)) e
+              ∙ sym (hit class low i w (map block_of (drop (i + 1) ws)) best p.small b)
+              ∙ rw (from_step i ws h) at p.left;
+        }
 
--- a block that fits exactly is the best of all
-pub fits-exactly : (t : List ℕ) (order class low at i count : ℕ) → low ≡ class → or_else (smallest (low - class) class i (from t i count)) (held order low at) ≡ held order low at
-fits-exactly t order class low at i count e =
-    let z : low - class ≡ 0 = omega arith in
-    ap (λ (n : ℕ). or_else (smallest n class i (from t i count)) (held order low at)) z
+    pub passes : get_or ws i 0 < 2 ^ 64 → betterb class low (get_or ws i 0) ≡ false → Passing order class low (i + 1) best ws
+    passes l b =
+        record {
+          reach = p.reach;
+          small = p.small;
+          left = ap (λ (f : Option ℕ). or_else f best) (sym (miss low class i (get_or ws i 0) (map block_of (drop (i + 1) ws)) l b)) ∙ rw (from_step i ws h) at p.left;
+        }
 
-pub ends : (t : List ℕ) (order class low at i count : ℕ) → i ≡ count → or_else (smallest (low - class) class i (from t i count)) (held order low at) ≡ held order low at
-ends t order class low at i count e =
-    ap (λ (r : List Block). or_else (smallest (low - class) class i r) (held order low at)) (from-none t i count e)
-    ∙ ap (λ (f : Found). or_else f (held order low at)) (none_left (low - class) class i)
+  -- a block that fits exactly is the best of all
+  pub fits-exactly : low ≡ class → best ≡ smallest (order - class) class 0 (map block_of ws)
+  fits-exactly e =
+      let z : low - class ≡ 0 = omega arith in
+      rw z at p.left
 
-pub in-hand : (order low at : ℕ) → low < order → held order low at ≡ At at
-in-hand order low at h = rw (lt-ltb low order h, held) refl
-
-pub empty-handed : (order low at : ℕ) → order ≤ low → held order low at ≡ Nowhere
-empty-handed order low at h = rw (le-ltb low order h, held) refl
+  pub ends : i ≡ length ws → best ≡ smallest (order - class) class 0 (map block_of ws)
+  ends e =
+      let n : map block_of (drop i ws) ≡ [] = ap (map block_of) (drop_all i ws (omega arith)) in
+      sym (ap (λ (f : Option ℕ). or_else f best) (none_left (low - class) class i)) ∙ rw n at p.left

@@ -1,13 +1,11 @@
 -- The pass over the records that counts their frames: one record at a time. Assumes nothing.
-use Rattle.std.proofs.Common.{◌≡◌, ℕ, ◌+◌, ◌-◌, ◌^◌, ◌<◌, ◌≤◌, max, Bool, true, false, eqb, List, ◌∷◌, get_or, sym, refl, ap, ◌∙◌, add-zero, add_assoc, zero-add, arith}
+use Rattle.std.proofs.Common.{◌≡◌, ℕ, ◌+◌, ◌-◌, ◌^◌, ◌<◌, ◌≤◌, max, Bool, true, false, eqb, List, [], ◌∷◌, map, drop, length, get_or, sym, refl, ap, ◌∙◌, add-zero, add_assoc, zero-add, arith}
 use native.Mathlib.Nat.{zero-max, max-zero}
+use Rattle.std.proofs.lemmas.List.{drop_all}
 use Rattle.rules.specs.Rules.{Block, blk, Sound, none, next, granted, frames_of, largest_free}
-use Rattle.table.specs.Layout.{count_of, mark_of, class_of, block_of, blocks_of}
-use Rattle.table.specs.Sound.{soundb}
-use Rattle.table.proofs.Facts.{sound-fact}
-use Rattle.table.proofs.State.{sound-blocks}
+use Rattle.table.specs.Layout.{mark_of, class_of, block_of}
 use Rattle.frame_core.specs.Tally.{Tallied, free_of}
-use Rattle.frame_core.proofs.Records.{from, from_step, from-none}
+use Rattle.frame_core.proofs.Records.{from_step}
 
 -- blocks that do not overlap have no more frames than there are
 step-le : (p : Block → Bool) (floor : ℕ) (g : Bool) (k s : ℕ) (bs : List Block) (b : Bool) → p (blk g k s) ≡ b → floor ≤ s → s + 2 ^ k + frames_of p bs ≤ 2 ^ 32
@@ -20,23 +18,18 @@ frames-le p none h = omega arith
 frames-le p (next {floor = floor} {g = g} {k = k} {s = s} {bs = bs} low class aligned within more) h =
     step-le p floor g k s bs (p (blk g k s)) refl low (frames-le p more within)
 
--- the figures so far, with those of the records from place i on, are those of the table
-pub record Tally (t : List ℕ) (i count of_granted of_all largest : ℕ) : Type 0 where
-  pub granted-left : of_granted + frames_of granted (from t i count) ≡ frames_of granted (blocks_of t)
-  pub managed-left : of_all + frames_of (λ b. true) (from t i count) ≡ frames_of (λ b. true) (blocks_of t)
-  pub largest-left : max largest (largest_free (from t i count)) ≡ largest_free (blocks_of t)
+-- the figures so far, with those of the records from place i on, are those of all the records ws
+pub record Tally (ws : List ℕ) (i of_granted of_all largest : ℕ) : Type 0 where
+  pub granted-left : of_granted + frames_of granted (map block_of (drop i ws)) ≡ frames_of granted (map block_of ws)
+  pub managed-left : of_all + frames_of (λ b. true) (map block_of (drop i ws)) ≡ frames_of (λ b. true) (map block_of ws)
+  pub largest-left : max largest (largest_free (map block_of (drop i ws))) ≡ largest_free (map block_of ws)
 
-pub begins : (t : List ℕ) (count : ℕ) → count ≡ count_of (get_or t 0 0) → Tally t 0 count 0 0 0
-begins t count e =
-    record {
-      granted-left = zero-add _ ∙ ap (λ (n : ℕ). frames_of granted (from t 0 n)) e;
-      managed-left = zero-add _ ∙ ap (λ (n : ℕ). frames_of (λ b. true) (from t 0 n)) e;
-      largest-left = zero-max _ ∙ ap (λ (n : ℕ). largest_free (from t 0 n)) e;
-    }
+pub begins : (ws : List ℕ) → Tally ws 0 0 0 0
+begins ws = record { granted-left = zero-add _; managed-left = zero-add _; largest-left = zero-max _ }
 
-pub ends : (t : List ℕ) (i count of_granted of_all largest : ℕ) → i ≡ count → Tally t i count of_granted of_all largest → Tallied (blocks_of t) of_granted of_all largest
-ends t i count of_granted of_all largest e s =
-    let n = from-none t i count e in
+pub ends : (ws : List ℕ) (i of_granted of_all largest : ℕ) → length ws ≤ i → Tally ws i of_granted of_all largest → Tallied (map block_of ws) of_granted of_all largest
+ends ws i of_granted of_all largest l s =
+    let n : drop i ws ≡ [] = drop_all i ws l in
     record {
       granted_are = sym (add-zero of_granted) ∙ rw n at s.granted-left;
       managed_are = sym (add-zero of_all) ∙ rw n at s.managed-left;
@@ -60,43 +53,39 @@ free-le w size false e = rw (free_of, e) (omega arith)
 max_assoc : (a b c : ℕ) → max (max a b) c ≡ max a (max b c)
 max_assoc a b c = omega arith
 
-module _ (t : List ℕ) (sound : soundb t ≡ true) (i count : ℕ) (is : count ≡ count_of (get_or t 0 0)) (here : i < count) where
-  module _ {of_granted of_all largest : ℕ} (so_far : Tally t i count of_granted of_all largest) (size free : ℕ) (power : size ≡ 2 ^ class_of (get_or t (i + 1) 0))
-      (part : free ≡ free_of (get_or t (i + 1) 0) size) where
-    step : from t i count ≡ block_of (get_or t (i + 1) 0) ∷ from t (i + 1) count
-    step = from_step t i count here (omega (arith, sound-fact t sound))
+module _ (ws : List ℕ) (i : ℕ) (here : i < length ws) {of_granted of_all largest : ℕ} (so_far : Tally ws i of_granted of_all largest) (size free : ℕ)
+    (power : size ≡ 2 ^ class_of (get_or ws i 0)) (part : free ≡ free_of (get_or ws i 0) size) where
+  granted-now : of_granted + (size - free + frames_of granted (map block_of (drop (i + 1) ws))) ≡ frames_of granted (map block_of ws)
+  granted-now =
+      ap (λ (n : ℕ). of_granted + (size - n + frames_of granted (map block_of (drop (i + 1) ws)))) part
+      ∙ ap (λ (n : ℕ). of_granted + n) (granted-step (get_or ws i 0) size (map block_of (drop (i + 1) ws)) (eqb (mark_of (get_or ws i 0)) 1) refl power)
+      ∙ rw (from_step i ws here) at so_far.granted-left
 
-    pub record Fits : Type 0 where
-      pub part_of : free ≤ size
-      pub granted-fit : of_granted + (size - free) ≤ 2 ^ 32
-      pub managed-fit : of_all + size ≤ 2 ^ 32
+  managed-now : of_all + (size + frames_of (λ b. true) (map block_of (drop (i + 1) ws))) ≡ frames_of (λ b. true) (map block_of ws)
+  managed-now = ap (λ (n : ℕ). of_all + (n + frames_of (λ b. true) (map block_of (drop (i + 1) ws)))) power ∙ rw (from_step i ws here) at so_far.managed-left
 
-    granted-now : of_granted + (size - free + frames_of granted (from t (i + 1) count)) ≡ frames_of granted (blocks_of t)
-    granted-now =
-        ap (λ (n : ℕ). of_granted + (size - n + frames_of granted (from t (i + 1) count))) part
-        ∙ ap (λ (n : ℕ). of_granted + n) (granted-step (get_or t (i + 1) 0) size (from t (i + 1) count) (eqb (mark_of (get_or t (i + 1) 0)) 1) refl power)
-        ∙ rw step at so_far.granted-left
+  pub record Fits : Type 0 where
+    pub part_of : free ≤ size
+    pub granted-fit : of_granted + (size - free) ≤ 2 ^ 32
+    pub managed-fit : of_all + size ≤ 2 ^ 32
 
-    managed-now : of_all + (size + frames_of (λ b. true) (from t (i + 1) count)) ≡ frames_of (λ b. true) (blocks_of t)
-    managed-now = ap (λ (n : ℕ). of_all + (n + frames_of (λ b. true) (from t (i + 1) count))) power ∙ rw step at so_far.managed-left
+  pub fits : {top : ℕ} → Sound top 0 (map block_of ws) → Fits
+  fits sound =
+      let g = frames-le granted sound (omega arith) in
+      let m = frames-le (λ b. true) sound (omega arith) in
+      record {
+        part_of = rw part (free-le (get_or ws i 0) size (eqb (mark_of (get_or ws i 0)) 1) refl);
+        granted-fit = omega (arith, g, granted-now);
+        managed-fit = omega (arith, m, managed-now);
+      }
 
-    pub fits : Fits
-    fits =
-        let g = frames-le granted (sound-blocks t sound) (omega arith) in
-        let m = frames-le (λ b. true) (sound-blocks t sound) (omega arith) in
-        record {
-          part_of = rw part (free-le (get_or t (i + 1) 0) size (eqb (mark_of (get_or t (i + 1) 0)) 1) refl);
-          granted-fit = omega (arith, g, granted-now);
-          managed-fit = omega (arith, m, managed-now);
-        }
-
-    pub goes_on : (more : ℕ) → more ≡ max largest free → Tally t (i + 1) count (of_granted + (size - free)) (of_all + size) more
-    goes_on more e =
-        record {
-          granted-left = add_assoc of_granted _ _ ∙ granted-now;
-          managed-left = add_assoc of_all _ _ ∙ managed-now;
-          largest-left = ap (λ (n : ℕ). max n (largest_free (from t (i + 1) count))) e ∙ max_assoc largest free _
-              ∙ ap (λ (n : ℕ). max largest (max n (largest_free (from t (i + 1) count)))) part
-              ∙ ap (max largest) (largest_step (get_or t (i + 1) 0) size (from t (i + 1) count) (eqb (mark_of (get_or t (i + 1) 0)) 1) refl power)
-              ∙ rw step at so_far.largest-left;
-        }
+  pub goes_on : (more : ℕ) → more ≡ max largest free → Tally ws (i + 1) (of_granted + (size - free)) (of_all + size) more
+  goes_on more e =
+      record {
+        granted-left = add_assoc of_granted _ _ ∙ granted-now;
+        managed-left = add_assoc of_all _ _ ∙ managed-now;
+        largest-left = ap (λ (n : ℕ). max n (largest_free (map block_of (drop (i + 1) ws)))) e ∙ max_assoc largest free _
+            ∙ ap (λ (n : ℕ). max largest (max n (largest_free (map block_of (drop (i + 1) ws))))) part
+            ∙ ap (max largest) (largest_step (get_or ws i 0) size (map block_of (drop (i + 1) ws)) (eqb (mark_of (get_or ws i 0)) 1) refl power)
+            ∙ rw (from_step i ws here) at so_far.largest-left;
+      }

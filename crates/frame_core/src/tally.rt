@@ -1,5 +1,5 @@
 // The figures of a summary.
-ghost use Rattle.std.specs.Prelude.{◌≡◌, max, true};
+ghost use Rattle.std.specs.Prelude.{◌≡◌, true};
 ghost use Rattle.table.specs.Layout.{blocks_of};
 ghost use Rattle.table.specs.Sound.{soundb};
 ghost use Rattle.frame_core.specs.Tally.{Tallied, free_of};
@@ -19,12 +19,6 @@ fn free_of(w: u64, size: u64) -> u64
     if table::mark_of(w) == 1 { 0 } else { size }
 }
 
-fn larger(a: u64, b: u64) -> u64
-    ensures { result ≡ max a b }
-{
-    if a < b { b } else { a }
-}
-
 // The figures of a sound table, in one pass over its records.
 pub fn count_frames(t: &[u64]) -> Figures
     requires { soundb t.now ≡ true }
@@ -34,15 +28,12 @@ pub fn count_frames(t: &[u64]) -> Figures
     let mut granted = 0;
     let mut managed = 0;
     let mut largest = 0;
-    let mut i = 0;
-    while i < count {
-        let w = t[i + 1];
-        let size = table::end_of(w) - table::start_of(w);
-        let free = free_of(w, size);
+    for w in &t[1..count + 1] {
+        let size = table::size_of(*w);
+        let free = free_of(*w, size);
         granted += size - free;
         managed += size;
-        largest = larger(largest, free);
-        i += 1;
+        largest = u64::max(largest, free);
     }
     Figures {
         granted,

@@ -6,12 +6,10 @@ use Prim.Native.Nat.{ℕ, suc, ◌+◌, ◌-◌, ◌≤◌, ◌<◌}
 use native.Mathlib.Omega.{arith}
 use lib.ListN.{length, get_or}
 use borrow.Author.Tests.{le-leb, lt-leb}
-use Rattle.std.specs.Prelude.{Err}
+use Rattle.std.specs.Prelude.{Err, Option, Some, None}
 use Rattle.answers.specs.declared.Refusal.TheVariants.{NoBlock}
 use Rattle.answers.specs.Judging.{refused}
 use Rattle.rules.specs.Rules.{start, block_at, smallest, serving}
-use Rattle.rules.specs.declared.Found.{Found}
-use Rattle.rules.specs.declared.Found.TheVariants.{At, Nowhere}
 use Rattle.rules.proofs.Serving.{Serves, serves}
 use Rattle.table.specs.Layout.{order_of, count_of, start_of, blocks_of}
 use Rattle.table.specs.Sound.{soundb}
@@ -34,7 +32,7 @@ module _ (ws : List ℕ) (sound : soundb ws ≡ true) (c : ℕ) where
   unfolding granting
   too_large h = stops (rw (le-leb (order_of (get_or ws 0 0)) c h) refl)
 
-  module _ (h : c < order_of (get_or ws 0 0)) (f : Found) (found : f ≡ smallest (order_of (get_or ws 0 0) - c) c 0 (blocks_of ws)) where
+  module _ (h : c < order_of (get_or ws 0 0)) (f : Option ℕ) (found : f ≡ smallest (order_of (get_or ws 0 0) - c) c 0 (blocks_of ws)) where
     served : serving (order_of (get_or ws 0 0) - 1) c (blocks_of ws) ≡ f
     unfolding serving
     served =
@@ -42,12 +40,12 @@ module _ (ws : List ℕ) (sound : soundb ws ≡ true) (c : ℕ) where
         ap (λ (n : ℕ). smallest n c 0 (blocks_of ws)) e ∙ sym found
 
     -- no free block is large enough
-    pub no_block : f ≡ Nowhere → Says (carried (0 ∷ []) ws (granting c (order_of (get_or ws 0 0)) (length ws - 1) (blocks_of ws))) (reply_of (Err NoBlock)) ws
+    pub no_block : f ≡ None → Says (carried (0 ∷ []) ws (granting c (order_of (get_or ws 0 0)) (length ws - 1) (blocks_of ws))) (reply_of (Err NoBlock)) ws
     unfolding granting
     no_block e = stops (rw (lt-leb (order_of (get_or ws 0 0)) c h, served ∙ e) refl)
 
     -- the block at place i serves
-    module _ (i : ℕ) (e : f ≡ At i) where
+    module _ (i : ℕ) (e : f ≡ Some i) where
       it-serves : Serves c i (blocks_of ws)
       it-serves = serves (order_of (get_or ws 0 0) - c) c i (blocks_of ws) (sym found ∙ e)
 

@@ -13,7 +13,7 @@ use Rattle.std.specs.Prelude.{Err}
 use Rattle.answers.specs.declared.Refusal.TheVariants.{NoBlock, Misaligned}
 use Rattle.answers.specs.Judging.{refused}
 use Rattle.rules.specs.Rules.{class, start, end, block_at, contains, containing, place_of}
-use Rattle.rules.specs.declared.Found.TheVariants.{Nowhere}
+use Rattle.std.specs.Prelude.{None}
 use Rattle.rules.specs.declared.Place.TheVariants.{Inside, Gap}
 use Rattle.rules.proofs.Looking.{InsideAt, inside_is, gap_is, contained, not-contained, none-contains}
 use Rattle.table.specs.Layout.{order_of, count_of, mark_of, class_of, start_of, end_of, block_of, blocks_of}
@@ -62,7 +62,7 @@ module _ (ws : List ℕ) (sound : soundb ws ≡ true) (run c : ℕ) where
       multiple : eqb (run % 2 ^ c) 0 ≡ true
       multiple = eq-eqb (run % 2 ^ c) 0 (sym masked ∙ aligned)
 
-      none : containing c run (blocks_of ws) ≡ Nowhere → Stops
+      none : containing c run (blocks_of ws) ≡ None → Stops
       unfolding granting_at
       none e = says_none (rw (lt-leb (order_of (get_or ws 0 0)) c h, multiple, e) refl)
 

@@ -1,22 +1,20 @@
 -- What granting and granting at a start decide over the blocks of a sound table, from docs/RULES.md, "Blocks of frames" and "Refusal numbers".
-use Rattle.std.specs.Prelude.{Bool, true, false, not, List, [], ◌∷◌, ℕ, ◌-◌, ◌%◌, ◌^◌, eqb, leb}
+use Rattle.std.specs.Prelude.{Bool, true, false, not, List, [], ◌∷◌, ℕ, ◌-◌, ◌%◌, ◌^◌, eqb, leb, Option, Some, None}
 use Rattle.answers.specs.declared.Refusal.TheVariants.{Misaligned, NoBlock}
 use Rattle.answers.specs.Judging.{done, refuse, judge}
-use Rattle.rules.specs.declared.Found.{Found}
-use Rattle.rules.specs.declared.Found.TheVariants.{At, Nowhere}
 use Rattle.rules.specs.Rules.{Block, start, serving, containing, block_at, halved}
 use Rattle.frame_core.specs.Deciding.{Decision, no_room}
 
-abbrev pub is_nowhere : Found → Bool
-is_nowhere (At i) = false
-is_nowhere Nowhere = true
+abbrev pub is_nowhere : Option ℕ → Bool
+is_nowhere (Some i) = false
+is_nowhere None = true
 
-abbrev pub place_in : Found → ℕ
-place_in (At i) = i
-place_in Nowhere = 0
+abbrev pub place_in : Option ℕ → ℕ
+place_in (Some i) = i
+place_in None = 0
 
 -- a grant of class c from the block that was found, to the run that starts where it says
-abbrev pub granted_from : Found → (Block → ℕ) → ℕ → List Block → List Block
+abbrev pub granted_from : Option ℕ → (Block → ℕ) → ℕ → List Block → List Block
 granted_from f run c bs = halved c (run (block_at (place_in f) bs)) (place_in f) bs
 
 unfoldable pub granting : ℕ → ℕ → ℕ → List Block → Decision

@@ -7,7 +7,7 @@ ghost use Rattle.frame_core.specs.Carried.{carried, Says, reply_of};
 ghost use Rattle.frame_grant.specs.Granting.{granting, granting_at};
 
 use answers::{Answer, Refusal};
-use rules::{Found, Place};
+use rules::Place;
 
 // A record's word from here on has the granted mark, its topmost bit.
 const GRANTED: u64 = 0x8000_0000_0000_0000;
@@ -24,7 +24,7 @@ pub fn grant_block(t: &mut [u64], size: Option<u64>) -> Answer
     if order <= class {
         return Err(Refusal::NoBlock);
     }
-    let Found::At(i) = frame_core::pick(t, order, class) else {
+    let Some(i) = frame_core::pick(t, order, class) else {
         return Err(Refusal::NoBlock);
     };
     let lowest = table::start_of(t[i + 1]);

@@ -14,8 +14,7 @@ use Rattle.answers.specs.declared.Refusal.TheVariants.{BadRange, Overlap, BadAli
 use Rattle.answers.specs.Paper.{number_of}
 use Rattle.answers.specs.Judging.{refused, done, Check, refuse, judge}
 use Rattle.blocks.specs.Blocks.{rounded, is_power_of_two}
-use Rattle.rules.specs.declared.Found.{Found}
-use Rattle.rules.specs.declared.Found.TheVariants.{At, Nowhere}
+use Rattle.std.specs.Prelude.{Option, Some, None}
 use Rattle.rules.specs.Aligned.{Aligned}
 use Rattle.rules.specs.Largest.{Joined}
 use Rattle.rules.specs.Rules.{Block, Sound, start, some, added, overlaps, serving, containing, block_at, halved, is_granted, released}
@@ -52,10 +51,10 @@ test P false r cs d holds fails = fails refl
 
 -- what is left of the checks of a grant once its class is known to be small enough, and what it decides
 module _ (room : ℕ) (bs : List Block) where
-  abbrev pub rest : Found → (Block → ℕ) → ℕ → List Check
+  abbrev pub rest : Option ℕ → (Block → ℕ) → ℕ → List Check
   rest f run k = refuse (is_nowhere f) NoBlock ∷ no_room room (granted_from f run k bs) ∷ []
 
-  abbrev pub given : Found → (Block → ℕ) → ℕ → Decision
+  abbrev pub given : Option ℕ → (Block → ℕ) → ℕ → Decision
   given f run k = done (run (block_at (place_in f) bs) ∷ []) (granted_from f run k bs)
 
 module _ (order room : ℕ) (bs : List Block) (low : 1 ≤ order) (high : order ≤ 33) (sound : Sound (order - 1) 0 bs) (fits : length bs ≤ room) where
@@ -77,10 +76,10 @@ module _ (order room : ℕ) (bs : List Block) (low : 1 ≤ order) (high : order 
       adds (added-leaves s e bs (omega arith) (ltb-false e s w.0) (ltb-false (2 ^ 32) e w.1) sound clear) (ltb-false room _ enough))))
 
   -- a grant from the block that was found
-  found-effect : {c : Call} {k : ℕ} → Grants c k → (run : Block → ℕ) (f : Found) → ((i : ℕ) → f ≡ At i → Offers k (run (block_at i bs)) i bs)
+  found-effect : {c : Call} {k : ℕ} → Grants c k → (run : Block → ℕ) (f : Option ℕ) → ((i : ℕ) → f ≡ Some i → Offers k (run (block_at i bs)) i bs)
       → Has c (judge (rest room bs f run k) (given room bs f run k))
-  found-effect g run Nowhere offers = refuses {r = NoBlock} (omega arith)
-  found-effect {c} {k} g run (At i) offers =
+  found-effect g run None offers = refuses {r = NoBlock} (omega arith)
+  found-effect {c} {k} g run (Some i) offers =
       test (Has c) (ltb room (length (halved k (run (block_at i bs)) i bs))) NoRoom [] (done (run (block_at i bs) ∷ []) (halved k (run (block_at i bs)) i bs)) (refuses {r = NoRoom} (omega arith))
       (λ enough.
       let o = offers i refl in
@@ -90,7 +89,7 @@ module _ (order room : ℕ) (bs : List Block) (low : 1 ≤ order) (high : order 
   granting-effect : {c : Call} {k : ℕ} → Requests c k → Has c (granting k order room bs)
   unfolding granting
   granting-effect {c} {k} r =
-      let f : Found = serving (order - 1) k bs in
+      let f : Option ℕ = serving (order - 1) k bs in
       test (Has c) (leb order k) NoBlock (rest room bs f start k) (given room bs f start k) (refuses {r = NoBlock} (omega arith))
       (λ l. found-effect (any r) start f (λ i e. serving-offers k i bs sound e))
 
@@ -98,7 +97,7 @@ module _ (order room : ℕ) (bs : List Block) (low : 1 ≤ order) (high : order 
   unfolding granting_at
   granting-at-effect s n =
       let k : ℕ = wanted (rounded n) in
-      let f : Found = containing k s bs in
+      let f : Option ℕ = containing k s bs in
       let misaligned : Bool = not (eqb (s % 2 ^ k) 0) in
       test (Has (AllocAt s n)) (leb order k) NoBlock (refuse misaligned Misaligned ∷ rest room bs f (λ b. s) k) (given room bs f (λ b. s) k) (refuses {r = NoBlock} (omega arith))
       (λ l.

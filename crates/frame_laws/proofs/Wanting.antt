@@ -10,8 +10,7 @@ use lib.ListN.{length}
 use borrow.Author.Tests.{lt-leb, eq-eqb}
 use Rattle.answers.specs.Judging.{judge}
 use Rattle.blocks.specs.Blocks.{rounded}
-use Rattle.rules.specs.declared.Found.{Found}
-use Rattle.rules.specs.declared.Found.TheVariants.{At, Nowhere}
+use Rattle.std.specs.Prelude.{Option, Some, None}
 use Rattle.rules.specs.Aligned.{Aligned}
 use Rattle.rules.specs.Rules.{Block, start, serving, containing, block_at, halved}
 use Rattle.rules.proofs.Best.{somewhere}
@@ -32,20 +31,20 @@ number_in none ws d = (carried none ws d).reply.number
 
 module _ (room : ℕ) (bs : List Block) (none ws : List ℕ) where
   -- past the tests of the request, 9 says that no block was found
-  found-nine : (k : ℕ) (run : Block → ℕ) (f : Found) → (number_in none ws (judge (rest room bs f run k) (given room bs f run k)) ≡ 9) ↔ (f ≡ Nowhere)
-  found-nine k run Nowhere = (λ e. refl, λ e. refl)
-  found-nine k run (At i) = (λ e. absurd (other (ltb room (length (halved k (run (block_at i bs)) i bs))) refl e), λ e. absurd (somewhere e))
+  found-nine : (k : ℕ) (run : Block → ℕ) (f : Option ℕ) → (number_in none ws (judge (rest room bs f run k) (given room bs f run k)) ≡ 9) ↔ (f ≡ None)
+  found-nine k run None = (λ e. refl, λ e. refl)
+  found-nine k run (Some i) = (λ e. absurd (other (ltb room (length (halved k (run (block_at i bs)) i bs))) refl e), λ e. absurd (somewhere e))
     where
       other : (b : Bool) → ltb room (length (halved k (run (block_at i bs)) i bs)) ≡ b
-          → number_in none ws (judge (rest room bs (At i) run k) (given room bs (At i) run k)) ≡ 9 → ⊥
+          → number_in none ws (judge (rest room bs (Some i) run k) (given room bs (Some i) run k)) ≡ 9 → ⊥
       other true q e = let z : ◌≡◌ {A = ℕ} 11 9 = rw q at e in omega arith
       other false q e = let z : ◌≡◌ {A = ℕ} 0 9 = rw q at e in omega arith
 
-  granting-nine : (order k : ℕ) → k < order → (number_in none ws (granting k order room bs) ≡ 9) ↔ (serving (order - 1) k bs ≡ Nowhere)
+  granting-nine : (order k : ℕ) → k < order → (number_in none ws (granting k order room bs) ≡ 9) ↔ (serving (order - 1) k bs ≡ None)
   unfolding granting
   granting-nine order k h = rw (lt-leb order k h) (found-nine k start (serving (order - 1) k bs))
 
-  granting-at-nine : (order s k : ℕ) → k < order → Aligned k s → (number_in none ws (granting_at s k order room bs) ≡ 9) ↔ (containing k s bs ≡ Nowhere)
+  granting-at-nine : (order s k : ℕ) → k < order → Aligned k s → (number_in none ws (granting_at s k order room bs) ≡ 9) ↔ (containing k s bs ≡ None)
   unfolding granting_at
   granting-at-nine order s k h a = rw (lt-leb order k h, eq-eqb (s % 2 ^ k) 0 a.multiple) (found-nine k (λ b. s) (containing k s bs))
 

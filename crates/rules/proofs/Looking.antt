@@ -11,7 +11,7 @@ use lib.ListN.{length, take, drop, take-append-drop, length-append}
 use lib.Seq.{length-take-le}
 use borrow.Author.Tests.{ltb-true, ltb-false, lt-ltb, le-ltb, lt-leb}
 use Rattle.rules.specs.Rules.{Block, blk, start, end, Sound, next, is_granted, some, contains, containing, first_from, place_from, place_of, block_at}
-use Rattle.rules.specs.declared.Found.TheVariants.{At, Nowhere}
+use Rattle.std.specs.Prelude.{Some, None}
 use Rattle.rules.specs.declared.Place.TheVariants.{Inside, Gap}
 use Rattle.rules.proofs.Lists.{Below, none_below, and_below, Above, none_above, and_above, above-le, below-le, sound-above, Stands, split-here, stands_at, clear-from, below-snoc, Misses, none-misses, and-misses, misses-append, misses-below, misses-above, granted-picks, some-misses, some_at}
 
@@ -158,7 +158,7 @@ no-run-above c run (and_above {g} {k} {s} l a) h =
     rw (lt-leb s run (omega arith)) (ap (λ (x : Bool). x && leb (run + 2 ^ c) (s + 2 ^ k)) (and-false (not g))) in
     and-misses n (no-run-above c run a h)
 
-first-nowhere : (p : Block → Bool) (i : ℕ) {bs : List Block} → Misses p bs → first_from p i bs ≡ Nowhere
+first-nowhere : (p : Block → Bool) (i : ℕ) {bs : List Block} → Misses p bs → first_from p i bs ≡ None
 first-nowhere p i none-misses = refl
 first-nowhere p i (and-misses e m) = rw (e, first_from) (first-nowhere p (i + 1) m)
 
@@ -175,20 +175,20 @@ module _ {top : ℕ} (c run i : ℕ) (bs : List Block) (w : InsideAt top run i b
   after_run : Misses (contains c run) (drop (i + 1) bs)
   after_run = no-run-above c run (sound-above w.stand.after) w.high
 
-  pub contained : contains c run (block_at i bs) ≡ true → containing c run bs ≡ At i
+  pub contained : contains c run (block_at i bs) ≡ true → containing c run bs ≡ Some i
   unfolding containing
   contained e =
       let q : 0 + length (take i bs) ≡ i = omega (arith, front i bs w.here) in
       ap (first_from (contains c run) 0) w.split ∙ first_past (contains c run) 0 (block_at i bs ∷ drop (i + 1) bs) before-run
-      ∙ rw (e, first_from) (ap At q)
+      ∙ rw (e, first_from) (ap Some q)
 
-  pub not-contained : contains c run (block_at i bs) ≡ false → containing c run bs ≡ Nowhere
+  pub not-contained : contains c run (block_at i bs) ≡ false → containing c run bs ≡ None
   unfolding containing
   not-contained e =
       ap (first_from (contains c run) 0) w.split
       ∙ first-nowhere (contains c run) 0 (misses-append (contains c run) before-run (and-misses e after_run))
 
-pub none-contains : (c run i : ℕ) (bs : List Block) → GapAt run i bs → containing c run bs ≡ Nowhere
+pub none-contains : (c run i : ℕ) (bs : List Block) → GapAt run i bs → containing c run bs ≡ None
 unfolding containing
 none-contains c run i bs w =
     ap (first_from (contains c run) 0) (sym (take-append-drop i bs))

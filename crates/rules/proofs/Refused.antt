@@ -10,8 +10,7 @@ use borrow.Author.Tests.{le-leb}
 use Rattle.rules.specs.Aligned.{Aligned}
 use Rattle.rules.specs.Largest.{Whole, Held}
 use Rattle.rules.specs.Rules.{Block, blk, start, block_at, first_from, free_in, smallest, serving, contains, containing}
-use Rattle.rules.specs.declared.Found.{Found}
-use Rattle.rules.specs.declared.Found.TheVariants.{At, Nowhere}
+use Rattle.std.specs.Prelude.{Option, Some, None}
 use Rattle.rules.specs.Managed.{Free, Within, Spare, Lacks, Kept}
 use Rattle.rules.proofs.Aligned.{holds-class, held-covers}
 use Rattle.rules.proofs.Largest.{in_one, covered-self}
@@ -22,15 +21,15 @@ use Rattle.rules.proofs.Restored.{offered, serving-offers, containing-offers}
 
 -- ---- what is not found is not there
 
-none-serves : (n k i : ℕ) (bs : List Block) → smallest n k i bs ≡ Nowhere → (j t : ℕ) → Free bs j t → k ≤ j → j < k + n → ⊥
+none-serves : (n k i : ℕ) (bs : List Block) → smallest n k i bs ≡ None → (j t : ℕ) → Free bs j t → k ≤ j → j < k + n → ⊥
 none-serves zero k i bs e j t m l h = omega arith
 none-serves (suc n) k i bs e j t m l h = go (first_from (free_in k) i bs) refl (none-serves n (suc k) i bs)
   where
-    go : (f : Found) → first_from (free_in k) i bs ≡ f → (smallest n (suc k) i bs ≡ Nowhere → (j t : ℕ) → Free bs j t → suc k ≤ j → j < suc k + n → ⊥) → ⊥
-    go (At o) q ih = somewhere (rw q at e)
-    go Nowhere q ih = ih (rw q at e) j t m (higher k i bs q m l) (omega arith)
+    go : (f : Option ℕ) → first_from (free_in k) i bs ≡ f → (smallest n (suc k) i bs ≡ None → (j t : ℕ) → Free bs j t → suc k ≤ j → j < suc k + n → ⊥) → ⊥
+    go (Some o) q ih = somewhere (rw q at e)
+    go None q ih = ih (rw q at e) j t m (higher k i bs q m l) (omega arith)
 
-none-contains : (c run : ℕ) (bs : List Block) → containing c run bs ≡ Nowhere → Held (Free bs) c run → ⊥
+none-contains : (c run : ℕ) (bs : List Block) → containing c run bs ≡ None → Held (Free bs) c run → ⊥
 unfolding containing
 none-contains c run bs e h =
     let y : contains c run (blk false h.class h.start) ≡ true =
@@ -48,16 +47,16 @@ module _ {top : ℕ} (bs : List Block) (w : Kept top bs) where
   held-spare h x d = (spare-is x w.sound).1 (covered-self h.member x (held-covers h.holds d))
 
   -- "refused for want of a block exactly when no wholly free run of its rounded size stands at a multiple of that size"
-  pub serving-refused : (c : ℕ) → c ≤ top → (serving top c bs ≡ Nowhere) ↔ ((run : ℕ) → Aligned c run → Whole (Spare bs) c run → ⊥)
+  pub serving-refused : (c : ℕ) → c ≤ top → (serving top c bs ≡ None) ↔ ((run : ℕ) → Aligned c run → Whole (Spare bs) c run → ⊥)
   unfolding serving
   serving-refused c l = (λ e run a f. none e (spare-held c run l a f), λ n. go (serving top c bs) refl n)
     where
-      none : serving top c bs ≡ Nowhere → {run : ℕ} → Held (Free bs) c run → ⊥
+      none : serving top c bs ≡ None → {run : ℕ} → Held (Free bs) c run → ⊥
       none e h = none-serves (suc top - c) c 0 bs e h.class h.start h.member (holds-class h.holds) (omega (arith, (member-fits w.sound h.member).small))
 
-      go : (f : Found) → serving top c bs ≡ f → ((run : ℕ) → Aligned c run → Whole (Spare bs) c run → ⊥) → serving top c bs ≡ Nowhere
-      go (At i) e n = let o = serving-offers c i bs w.sound e in absurd (n (start (block_at i bs)) o.aligned (held-spare (offered o)))
-      go Nowhere e n = e
+      go : (f : Option ℕ) → serving top c bs ≡ f → ((run : ℕ) → Aligned c run → Whole (Spare bs) c run → ⊥) → serving top c bs ≡ None
+      go (Some i) e n = let o = serving-offers c i bs w.sound e in absurd (n (start (block_at i bs)) o.aligned (held-spare (offered o)))
+      go None e n = e
 
   -- each frame is spare or not, and so a run that is not wholly spare lacks a frame
   spare-or-not : (x : ℕ) → Spare bs x ⊎ (Spare bs x → ⊥)
@@ -66,9 +65,9 @@ module _ {top : ℕ} (bs : List Block) (w : Kept top bs) where
       one : Aligned 0 x
       one = record { multiple = omega arith }
 
-      go : (f : Found) → containing 0 x bs ≡ f → Spare bs x ⊎ (Spare bs x → ⊥)
-      go (At i) e = inl (held-spare (offered (containing-offers 0 x i bs one e)) x (omega arith))
-      go Nowhere e = inr (λ f. none-contains 0 x bs e (spare-held 0 x (omega arith) one (λ y c. let q : y ≡ x = omega arith in rw q f)))
+      go : (f : Option ℕ) → containing 0 x bs ≡ f → Spare bs x ⊎ (Spare bs x → ⊥)
+      go (Some i) e = inl (held-spare (offered (containing-offers 0 x i bs one e)) x (omega arith))
+      go None e = inr (λ f. none-contains 0 x bs e (spare-held 0 x (omega arith) one (λ y c. let q : y ≡ x = omega arith in rw q f)))
 
   lacks-or-not : (n run : ℕ) → ((x : ℕ) → Within run (run + n) x → Spare bs x) ⊎ Lacks bs run (run + n)
   lacks-or-not zero run = inl (λ x d. absurd (omega arith))
@@ -85,13 +84,13 @@ module _ {top : ℕ} (bs : List Block) (w : Kept top bs) where
           side x d (no h) = let q : x ≡ run + n = omega arith in rw q g
 
   -- "or, with the start given and aligned, when a frame of that run is not free"
-  pub containing-refused : (c run : ℕ) → c ≤ top → Aligned c run → (containing c run bs ≡ Nowhere) ↔ Lacks bs run (run + 2 ^ c)
+  pub containing-refused : (c run : ℕ) → c ≤ top → Aligned c run → (containing c run bs ≡ None) ↔ Lacks bs run (run + 2 ^ c)
   containing-refused c run l a = (λ e. search e (lacks-or-not (2 ^ c) run), λ k. go (containing c run bs) refl k)
     where
-      search : containing c run bs ≡ Nowhere → ((x : ℕ) → Within run (run + 2 ^ c) x → Spare bs x) ⊎ Lacks bs run (run + 2 ^ c) → Lacks bs run (run + 2 ^ c)
+      search : containing c run bs ≡ None → ((x : ℕ) → Within run (run + 2 ^ c) x → Spare bs x) ⊎ Lacks bs run (run + 2 ^ c) → Lacks bs run (run + 2 ^ c)
       search e (inl f) = absurd (none-contains c run bs e (spare-held c run l a (λ x d. f x (omega arith))))
       search e (inr k) = k
 
-      go : (f : Found) → containing c run bs ≡ f → Lacks bs run (run + 2 ^ c) → containing c run bs ≡ Nowhere
-      go (At i) e k = absurd (k.not_spare (held-spare (offered (containing-offers c run i bs a e)) k.frame (omega (arith, k.within))))
-      go Nowhere e k = e
+      go : (f : Option ℕ) → containing c run bs ≡ f → Lacks bs run (run + 2 ^ c) → containing c run bs ≡ None
+      go (Some i) e k = absurd (k.not_spare (held-spare (offered (containing-offers c run i bs a e)) k.frame (omega (arith, k.within))))
+      go None e k = e

@@ -13,7 +13,7 @@ use borrow.Author.Tests.{leb-true, not-true}
 use Rattle.rules.specs.Aligned.{Aligned, Holds, Meets}
 use Rattle.rules.specs.Largest.{Joined, Held}
 use Rattle.rules.specs.Rules.{Block, blk, granted, class, start, Sound, is_granted, some, block_at, serving, contains, containing, halved, released}
-use Rattle.rules.specs.declared.Found.TheVariants.{At}
+use Rattle.std.specs.Prelude.{Some}
 use Rattle.rules.specs.Managed.{◌∈◌, Free, Granted, Is, Managed, Kept, Offers, Leaves}
 use Rattle.rules.proofs.Aligned.{aligned-le, holds-meets}
 use Rattle.rules.proofs.Lists.{both, stands_at}
@@ -27,7 +27,7 @@ use Rattle.rules.proofs.Unique.{unique}
 
 -- ---- the blocks that requests find
 
-pub serving-offers : {top : ℕ} (c i : ℕ) (bs : List Block) → Sound top 0 bs → serving top c bs ≡ At i → Offers c (start (block_at i bs)) i bs
+pub serving-offers : {top : ℕ} (c i : ℕ) (bs : List Block) → Sound top 0 bs → serving top c bs ≡ Some i → Offers c (start (block_at i bs)) i bs
 unfolding serving
 serving-offers {top} c i bs r e =
     let w = serves (suc top - c) c i bs e in
@@ -38,7 +38,7 @@ serving-offers {top} c i bs r e =
       holds = record { low = le_refl (start (block_at i bs)); high = omega (arith, pow_mono w.large) };
     }
 
-pub containing-offers : (c run i : ℕ) (bs : List Block) → Aligned c run → containing c run bs ≡ At i → Offers c run i bs
+pub containing-offers : (c run i : ℕ) (bs : List Block) → Aligned c run → containing c run bs ≡ Some i → Offers c run i bs
 unfolding containing
 containing-offers c run i bs a e =
     let w = first-at (contains c run) 0 i bs e in
@@ -90,8 +90,8 @@ module _ {top : ℕ} (order : top ≤ 32) (bs : List Block) (w : Kept top bs) wh
             (λ m. ⊎_elim (λ e. absurd (m.1 e)) (λ n. n) ((grant.granted k s).0 m.0), λ m. ((grant.granted k s).1 (inr m), fresh m)))
             grant.joined (released-leaves order c run (halved c run i bs) grant.sound (grant-granted c run i bs w.sound o))
 
-  pub served-restored : (c i : ℕ) → serving top c bs ≡ At i → released top c (start (block_at i bs)) (halved c (start (block_at i bs)) i bs) ≡ bs
+  pub served-restored : (c i : ℕ) → serving top c bs ≡ Some i → released top c (start (block_at i bs)) (halved c (start (block_at i bs)) i bs) ≡ bs
   served-restored c i e = restored c (start (block_at i bs)) i (serving-offers c i bs w.sound e)
 
-  pub contained-restored : (c run i : ℕ) → Aligned c run → containing c run bs ≡ At i → released top c run (halved c run i bs) ≡ bs
+  pub contained-restored : (c run i : ℕ) → Aligned c run → containing c run bs ≡ Some i → released top c run (halved c run i bs) ≡ bs
   contained-restored c run i a e = restored c run i (containing-offers c run i bs a e)

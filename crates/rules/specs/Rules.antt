@@ -1,9 +1,7 @@
 -- The rules of blocks, from docs/RULES.md, "Blocks of frames", over the list of a table's blocks in ascending start. `top` is ORDER - 1.
-use Rattle.std.specs.Prelude.{Bool, true, false, not, ◌&&◌, ◌||◌, List, [], ◌∷◌, ◌++◌, ℕ, zero, suc, ◌+◌, ◌-◌, ◌^◌, ◌≤◌, min, max, eqb, leb, ltb, take, drop, get_or}
+use Rattle.std.specs.Prelude.{Bool, true, false, not, ◌&&◌, ◌||◌, List, [], ◌∷◌, ◌++◌, ℕ, zero, suc, ◌+◌, ◌-◌, ◌^◌, ◌≤◌, min, max, eqb, leb, ltb, take, drop, get_or, Option, Some, None}
 use Rattle.blocks.specs.Blocks.{buddy_of, piece_size, size_class}
 use Rattle.rules.specs.Aligned.{Aligned}
-use Rattle.rules.specs.declared.Found.{Found}
-use Rattle.rules.specs.declared.Found.TheVariants.{At, Nowhere}
 use Rattle.rules.specs.declared.Place.{Place}
 use Rattle.rules.specs.declared.Place.TheVariants.{Inside, Gap}
 
@@ -85,14 +83,14 @@ towards (suc i) c run t = elim (leb c i) [
 ]
 
 -- ---- Looking for a block: at a place of the list, or nowhere
-abbrev pub or_else : Found → Found → Found
-or_else (At i) f = At i
-or_else Nowhere f = f
+abbrev pub or_else : Option ℕ → Option ℕ → Option ℕ
+or_else (Some i) f = Some i
+or_else None f = f
 
 -- the first block that passes a test, where the list's head has place i
-abbrev pub first_from : (Block → Bool) → ℕ → List Block → Found
-first_from p i [] = Nowhere
-first_from p i (b ∷ bs) = elim (p b) [ true ↦ At i | false ↦ first_from p (i + 1) bs ]
+abbrev pub first_from : (Block → Bool) → ℕ → List Block → Option ℕ
+first_from p i [] = None
+first_from p i (b ∷ bs) = elim (p b) [ true ↦ Some i | false ↦ first_from p (i + 1) bs ]
 
 -- the block that has the frame f, or the place where its record would stand; the list's head has place i
 abbrev pub place_from : ℕ → ℕ → List Block → Place
@@ -106,19 +104,19 @@ place_of f bs = place_from f 0 bs
 abbrev pub free_in : ℕ → Block → Bool
 free_in k (blk g j t) = not g && eqb j k
 
-abbrev pub smallest : ℕ → ℕ → ℕ → List Block → Found
-smallest zero k i bs = Nowhere
+abbrev pub smallest : ℕ → ℕ → ℕ → List Block → Option ℕ
+smallest zero k i bs = None
 smallest (suc n) k i bs = or_else (first_from (free_in k) i bs) (smallest n (suc k) i bs)
 
 -- the block that serves a request of class c
-unfoldable pub serving : ℕ → ℕ → List Block → Found
+unfoldable pub serving : ℕ → ℕ → List Block → Option ℕ
 serving top c bs = smallest (suc top - c) c 0 bs
 
 -- ---- Granting at a start: "The one free block that contains the run"
 abbrev pub contains : ℕ → ℕ → Block → Bool
 contains c run b = not (granted b) && leb (start b) run && leb (run + 2 ^ c) (end b)
 
-unfoldable pub containing : ℕ → ℕ → List Block → Found
+unfoldable pub containing : ℕ → ℕ → List Block → Option ℕ
 containing c run bs = first_from (contains c run) 0 bs
 
 -- ---- Releasing: "While the class is below ORDER-1 and the buddy is free in the same class, join the two and go up one class. The joined

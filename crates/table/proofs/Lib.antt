@@ -3,3 +3,4 @@ pub mod Words
 pub mod State
 pub mod Search
 pub mod Replacing
+pub mod Walked

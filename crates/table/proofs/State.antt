@@ -116,7 +116,7 @@ module _ (ws : List ℕ) (sound : soundb ws ≡ true) where
       let x = sound-fact ws sound in
       blocks-sound (order_of (get_or ws 0 0)) 0 (records ws) x.fine x.apart
 
-  length-records : length (records ws) ≡ count_of (get_or ws 0 0)
+  pub length-records : length (records ws) ≡ count_of (get_or ws 0 0)
   length-records =
       let x = sound-fact ws sound in
       let e = length-slice 1 (count_of (get_or ws 0 0) + 1) ws (omega arith) in

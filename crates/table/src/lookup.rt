@@ -13,21 +13,11 @@ pub fn place(t: &[u64], frame: u64) -> Place
     ensures { result ≡ place_of frame (blocks_of t.now) }
 {
     let count = count_of(t[0]);
-    let mut low: usize = 0;
-    let mut high = count;
-    while low < high {
-        let middle = low + (high - low) / 2;
-        if start_of(t[middle + 1]) <= frame {
-            low = middle + 1;
-        } else {
-            high = middle;
-        }
+    // the records that start at or before the frame come first: the last of them is the only one that may have it
+    let n = t[1..count + 1].partition_point(|w| start_of(*w) <= frame);
+    if n > 0 && frame < end_of(t[n]) {
+        Place::Inside(n - 1)
+    } else {
+        Place::Gap(n)
     }
-    if low == 0 {
-        return Place::Gap(0);
-    }
-    if frame < end_of(t[low]) {
-        return Place::Inside(low - 1);
-    }
-    Place::Gap(low)
 }

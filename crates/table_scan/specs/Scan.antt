@@ -1,5 +1,5 @@
 -- Internal to the scan of src/scan.rt: what the contracts of its private functions cite. When a table is sound stands in specs/Sound.antt of `table`.
-use Rattle.std.specs.Prelude.{Bool, ◌&&◌, cond, List, [], ◌∷◌, ◌≡◌, ℕ, ◌+◌, ◌-◌, ◌%◌, ◌^◌, ◌≤◌, ◌<◌, leb, ltb, eqb}
+use Rattle.std.specs.Prelude.{Bool, ◌&&◌, cond, List, [], ◌∷◌, ◌≡◌, ℕ, ◌-◌, ◌%◌, ◌^◌, ◌<◌, ◌≤◌, leb, ltb, eqb, Option, Some, None}
 use Rattle.table.specs.Layout.{class_of, gap_of, start_of, end_of}
 use Rattle.table.specs.Sound.{recordb}
 
@@ -21,17 +21,11 @@ unfoldable pub cleanb : ℕ → ℕ → ℕ → ℕ → ℕ → Bool
 cleanb order words overs masks laps =
     eqb (gap_of words) 0 && ltb (class_of words) 32 && eqb overs 0 && ltb masks (2 ^ (order - 1)) && eqb laps 0
 
--- where a record's block ends, if the record is good and the block before it ends at floor, at or before its start; else 0, which is the end of no block
-unfoldable pub next_end : ℕ → ℕ → ℕ → ℕ
-next_end order floor w = cond (ltb 0 floor && recordb order w && leb floor (start_of w)) (end_of w) 0
+-- the record is good, and the block before it ends at floor, at or before its start
+unfoldable pub nextb : ℕ → ℕ → ℕ → Bool
+nextb order floor w = recordb order w && leb floor (start_of w)
 
--- the same of each record in turn
-abbrev pub end_after : ℕ → ℕ → List ℕ → ℕ
-end_after order floor [] = floor
-end_after order floor (w ∷ ws) = end_after order (next_end order floor w) ws
-
--- to is the end of a part that starts at from
-pub record Part (from end to : ℕ) : Type 0 where
-  pub more : from < to
-  pub within : to ≤ end
-  pub small : to ≤ from + 1024
+-- where the last of the records' blocks ends, if that holds of each in turn, or floor if there is none
+abbrev pub end_after : ℕ → ℕ → List ℕ → Option ℕ
+end_after order floor [] = Some floor
+end_after order floor (w ∷ ws) = cond (nextb order floor w) (end_after order (end_of w) ws) None

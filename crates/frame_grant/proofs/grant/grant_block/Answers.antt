@@ -47,7 +47,7 @@ overflow_add-i c =
     let o = c.order_of-order.ensures in
     let f = c.pick.ensures ∙ ap (λ (n : ℕ). smallest (n - c.in-Some.class) c.in-Some.class 0 (blocks_of a.t.now)) o in
     let l = c.if-order-class.false in
-    omega (arith, here a.t.now c.requires.0 c.in-Some.class (omega arith) c.pick.result f c.in-At.i c.in-At.is)
+    omega (arith, here a.t.now c.requires.0 c.in-Some.class (omega arith) c.pick.result f c.in-Some.i c.in-Some.is)
 
 pub offset_bounds-t-i : goal.offset_bounds-t-i
 offset_bounds-t-i c =
@@ -56,7 +56,7 @@ offset_bounds-t-i c =
     let o = c.order_of-order.ensures in
     let f = c.pick.ensures ∙ ap (λ (n : ℕ). smallest (n - c.in-Some.class) c.in-Some.class 0 (blocks_of a.t.now)) o in
     let l = c.if-order-class.false in
-    omega (arith, here a.t.now c.requires.0 c.in-Some.class (omega arith) c.pick.result f c.in-At.i c.in-At.is)
+    omega (arith, here a.t.now c.requires.0 c.in-Some.class (omega arith) c.pick.result f c.in-Some.i c.in-Some.is)
 
 pub bounds-t-i : goal.bounds-t-i
 bounds-t-i c =
@@ -65,7 +65,7 @@ bounds-t-i c =
     let o = c.order_of-order.ensures in
     let f = c.pick.ensures ∙ ap (λ (n : ℕ). smallest (n - c.in-Some.class) c.in-Some.class 0 (blocks_of a.t.now)) o in
     let l = c.if-order-class.false in
-    omega (arith, here a.t.now c.requires.0 c.in-Some.class (omega arith) c.pick.result f c.in-At.i c.in-At.is)
+    omega (arith, here a.t.now c.requires.0 c.in-Some.class (omega arith) c.pick.result f c.in-Some.i c.in-Some.is)
 
 pub halve-requires : goal.halve-requires
 halve-requires c =
@@ -74,7 +74,7 @@ halve-requires c =
     let o = c.order_of-order.ensures in
     let f = c.pick.ensures ∙ ap (λ (n : ℕ). smallest (n - c.in-Some.class) c.in-Some.class 0 (blocks_of a.t.now)) o in
     let l = c.if-order-class.false in
-    halvable a.t.now c.requires.0 c.in-Some.class (omega arith) c.pick.result f c.in-At.i c.in-At.is
+    halvable a.t.now c.requires.0 c.in-Some.class (omega arith) c.pick.result f c.in-Some.i c.in-Some.is
 
 pub returns : goal.returns
 returns c =
@@ -83,4 +83,4 @@ returns c =
     let o = c.order_of-order.ensures in
     let f = c.pick.ensures ∙ ap (λ (n : ℕ). smallest (n - c.in-Some.class) c.in-Some.class 0 (blocks_of a.t.now)) o in
     let l = c.if-order-class.false in
-    rw c.in-Some.is (granted-from a.t.now c.requires.0 c.in-Some.class (omega arith) c.pick.result f c.in-At.i c.in-At.is c.start_of-lowest.result c.start_of-lowest.ensures c.halve.ensures)
+    rw c.in-Some.is (granted-from a.t.now c.requires.0 c.in-Some.class (omega arith) c.pick.result f c.in-Some.i c.in-Some.is c.start_of-lowest.result c.start_of-lowest.ensures c.halve.ensures)

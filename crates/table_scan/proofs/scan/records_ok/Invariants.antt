@@ -1,16 +1,11 @@
 -- `table_scan::scan::records_ok` meets its contract. Assumes nothing.
-use Prim.Native.Nat.{◌-◌, ◌^◌, ◌≤◌}
-use mathlib.Core.Path.{◌≡◌}
-use mathlib.Core.Bool.{◌&&◌}
-use lib.Dec.{ltb}
-use lib.Seq.{slice}
+use Rattle.std.specs.Prelude.{◌≡◌, ◌≤◌, ◌^◌, ◌&&◌, is_some}
+use Rattle.std.specs.Slice.Iter.{chunks_rest, chunks_size}
 use Rattle.table.specs.Sound.{recordsb, apartb}
 use Rattle.table_scan.specs.Scan.{below33, end_after}
 use Rattle.table_scan.proofs.scan.records_ok.Given as goal
 
-abbrev pub invariant-loop-from : goal.invariant-loop-from
-invariant-loop-from l = (2 ≤ l.from) × (l.from ≤ l.end) × (1 ≤ l.floor) × (l.floor ≤ 2 ^ 32)
-    × (ltb 0 (end_after (below33 l.order) l.floor (slice l.from l.end l.t)) ≡ recordsb l.order (slice 1 l.end l.t) && apartb 0 (slice 1 l.end l.t))
-
-abbrev pub decreases-loop-from : goal.decreases-loop-from
-decreases-loop-from l = l.end - l.from
+abbrev pub invariant-loop-part : goal.invariant-loop-part
+invariant-loop-part l = goal.iterator-loop-part.can_next l.part-iterator × goal.iterator-loop-part.is_finite l.part-iterator × (chunks_size l.part-iterator ≡ 1024)
+    × (1 ≤ l.floor) × (l.floor ≤ 2 ^ 32)
+    × (is_some (end_after (below33 l.order) l.floor (chunks_rest l.part-iterator)) ≡ recordsb l.order l.records && apartb 0 l.records)

@@ -1,36 +1,33 @@
 -- `table_scan::scan::rows_end` meets its contract. Assumes nothing.
 use mathlib.Core.Path.{sym, ◌∙◌}
 use native.Mathlib.Omega.{arith}
-use lib.Seq.{slice}
+use lib.Bits.{or_lt}
 use Rattle.table_scan.proofs.Rows.{row_first, row-turn, row_last}
 use Rattle.table_scan.proofs.scan.rows_end.Goals as goal
 
-pub loop-i-init : goal.loop-i-init
-loop-i-init c =
-    let a = c.args in
-    (omega arith, omega arith, omega arith, row_first a.order a.floor (slice a.from a.to a.t.now) (omega arith))
+pub loop-w-init : goal.loop-w-init
+loop-w-init c = (omega arith, omega arith, row_first c.args.order c.args.floor c.args.part.now (omega arith))
 
-pub loop-i-preserved : goal.loop-i-preserved
-loop-i-preserved c =
-    let a = c.args in (
+pub loop-w-preserved : goal.loop-w-preserved
+loop-w-preserved c =
+    let l = c.loop-w in (
       omega arith,
-      omega arith,
-      omega arith,
-      sym (row-turn a.order a.t.now c.loop-i.i a.to c.loop-i.words c.loop-i.overs c.loop-i.masks c.loop-i.laps c.loop-i.last
-          c.low_half-start.result c.mask_of-mask.result c.lap-laps.result (omega arith) (omega arith) (omega arith) (omega arith)
-          c.low_half-start.ensures c.mask_of-mask.ensures c.lap-laps.ensures)
-          ∙ c.loop-i.invariant.3,
+      or_lt 32 c.low_half-start.result c.mask_of-mask.result (omega arith) (omega arith),
+      sym (row-turn c.args.order c.args.part.now l.w-index l.words l.overs l.masks l.laps l.last c.low_half-start.result c.mask_of-mask.result
+          c.lap-laps.result (omega arith) (omega arith) (omega arith) c.low_half-start.ensures c.mask_of-mask.ensures c.lap-laps.ensures)
+          ∙ l.invariant.2,
     )
+
+pub overflow_add-result : goal.overflow_add-result
+overflow_add-result c = record { fits = omega (arith, c.from.ensures) }
 
 pub returns-then-clean : goal.returns-then-clean
 returns-then-clean c =
-    let a = c.args in
+    let l = c.loop-w in
     let y = sym c.clean.ensures ∙ c.if-clean.true in
-    c.frame_after.ensures
-    ∙ rw (row_last a.order c.loop-i.i a.to c.loop-i.last a.t.now _ (omega arith), y) at c.loop-i.invariant.3
+    rw c.from.ensures (rw (row_last c.args.order l.w-index l.last c.args.part.now _ c.loop-w-test.false, y) at l.invariant.2)
 
-pub returns : goal.returns
-returns c =
-    let a = c.args in
+pub returns-else-clean : goal.returns-else-clean
+returns-else-clean c =
     let n = sym c.clean.ensures ∙ c.if-clean.false in
-    rw n at c.loop-i.invariant.3
+    rw n at c.loop-w.invariant.2
