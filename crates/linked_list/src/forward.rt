@@ -34,6 +34,19 @@ pub fn iter(head: u64, arena: &[u64], most: usize) -> Nodes<'_>
     }
 }
 
+impl<'a> Nodes<'a> {
+    // The same nodes once more: a clone, which cannot fail.
+    pub fn rest(&self) -> Nodes<'a>
+        ensures { result ≡ self.now }
+    {
+        Nodes {
+            arena: self.arena,
+            node: self.node,
+            left: self.left,
+        }
+    }
+}
+
 impl<'a> Iterator for Nodes<'a> {
     type Item = u64;
 
