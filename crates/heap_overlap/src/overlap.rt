@@ -23,12 +23,11 @@ fn block_meets(address: u64, size: u64, start: u64, end: u64) -> bool
 }
 
 // Whether a block of the class, at one of these nodes, has a byte in [start, end), which is not empty.
-fn list_meets(nodes: Nodes<'_>, class: u64, start: u64, end: u64) -> bool
+fn list_meets(mut nodes: Nodes<'_>, class: u64, start: u64, end: u64) -> bool
     requires { (class < 33) × (start < end) }
     ensures { result ≡ meets start end (map (blk class) nodes.entry) }
 {
     let size = blocks::size_of(class);
-    let mut nodes = nodes;
     nodes.any(|node| block_meets(node, size, start, end))
 }
 

@@ -20,13 +20,12 @@ fn apart(a: u64, size: u64, b: u64, other: u64) -> bool
 }
 
 // A block and the blocks of a class at these nodes.
-fn apart_from_list(class: u64, address: u64, other: u64, nodes: Nodes<'_>) -> bool
+fn apart_from_list(class: u64, address: u64, other: u64, mut nodes: Nodes<'_>) -> bool
     requires { (class < 64) × (other < 64) }
     ensures { result ≡ apart_from (blk class address) (map (blk other) nodes.entry) }
 {
     let size = 1u64 << class;
     let bytes = 1u64 << other;
-    let mut nodes = nodes;
     nodes.all(|node| apart(address, size, node, bytes))
 }
 
