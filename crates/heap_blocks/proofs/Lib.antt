@@ -5,3 +5,4 @@ pub mod Counters
 pub mod Walks
 pub mod Classes
 pub mod Ends
+pub mod Asking

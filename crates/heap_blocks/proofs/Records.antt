@@ -6,8 +6,8 @@ use Prim.Native.Nat.{ℕ, ◌+◌, ◌^◌, ◌≤◌, ◌<◌}
 use native.Mathlib.Numerals.{add-one}
 use native.Mathlib.Omega.{arith}
 use lib.Dec.{leb}
-use lib.ListN.{length, get_or, take, drop_of_length-le, length-take}
-use lib.Seq.{slice, slice-cons}
+use lib.ListN.{length, get_or, drop, drop_of_length-le}
+use lib.Seq.{drop-cons}
 use lib.Pow.{pow_mono}
 use borrow.Author.Tests.{leb-true, ltb-true, eqb-true, le-leb, lt-ltb, eq-eqb}
 use Rattle.words.proofs.Tests.{both, and-swap}
@@ -60,29 +60,31 @@ granted-cons order bytes floor w ws =
     ∙ ap (λ (t : Bool). t && (b && ps)) (and-swap r rs l es)
     ∙ and-swap (r && l) (rs && es) b ps
 
-module _ (order bytes : ℕ) (ledger : List ℕ) (count : ℕ) (room : count ≤ length ledger) where
-  pub rest : (i : ℕ) → i < count → slice i count ledger ≡ get_or ledger i 0 ∷ slice (i + 1) count ledger
-  rest i h = slice-cons i count ledger 0 h room ∙ ap (λ (j : ℕ). get_or ledger i 0 ∷ slice j count ledger) (sym (add-one i))
+-- ---- the records from i on
 
-  pub none : (i : ℕ) → count ≤ i → slice i count ledger ≡ []
-  none i h = drop_of_length-le (take count ledger) {i = i} (simp length-take (omega arith))
+module _ (ws : List ℕ) where
+  pub rest : (i : ℕ) → i < length ws → drop i ws ≡ get_or ws i 0 ∷ drop (i + 1) ws
+  rest i h = rw add-one (drop-cons ws i 0 h)
 
-  pub granted-step : (floor i : ℕ) → i < count →
-      grantedb order bytes floor (slice i count ledger) ≡ nextb order bytes floor (get_or ledger i 0) && grantedb order bytes (address_of (get_or ledger i 0) + 2 ^ class_of (get_or ledger i 0)) (slice (i + 1) count ledger)
-  granted-step floor i h = ap (grantedb order bytes floor) (rest i h) ∙ granted-cons order bytes floor (get_or ledger i 0) (slice (i + 1) count ledger)
+  pub none : (i : ℕ) → length ws ≤ i → drop i ws ≡ []
+  none i h = drop_of_length-le ws {i = i} h
 
-  pub granted-end : (floor i : ℕ) → count ≤ i → grantedb order bytes floor (slice i count ledger) ≡ true
+  pub granted-step : (order bytes floor i : ℕ) → i < length ws →
+      grantedb order bytes floor (drop i ws) ≡ nextb order bytes floor (get_or ws i 0) && grantedb order bytes (address_of (get_or ws i 0) + 2 ^ class_of (get_or ws i 0)) (drop (i + 1) ws)
+  granted-step order bytes floor i h = ap (grantedb order bytes floor) (rest i h) ∙ granted-cons order bytes floor (get_or ws i 0) (drop (i + 1) ws)
+
+  pub granted-end : (order bytes floor i : ℕ) → length ws ≤ i → grantedb order bytes floor (drop i ws) ≡ true
   unfolding grantedb endsb
-  granted-end floor i h = rw (none i h)
+  granted-end order bytes floor i h = rw (none i h)
 
-  pub user-step : (i : ℕ) → i < count → requests (map grant_of (slice i count ledger)) ≡ requested_of (get_or ledger i 0) + requests (map grant_of (slice (i + 1) count ledger))
-  user-step i h = ap (λ (ws : List ℕ). requests (map grant_of ws)) (rest i h)
+  pub user-step : (i : ℕ) → i < length ws → requests (map grant_of (drop i ws)) ≡ requested_of (get_or ws i 0) + requests (map grant_of (drop (i + 1) ws))
+  user-step i h = ap (λ (xs : List ℕ). requests (map grant_of xs)) (rest i h)
 
-  pub user-end : (i : ℕ) → count ≤ i → requests (map grant_of (slice i count ledger)) ≡ 0
-  user-end i h = ap (λ (ws : List ℕ). requests (map grant_of ws)) (none i h)
+  pub user-end : (i : ℕ) → length ws ≤ i → requests (map grant_of (drop i ws)) ≡ 0
+  user-end i h = ap (λ (xs : List ℕ). requests (map grant_of xs)) (none i h)
 
-  pub allocated-step : (i : ℕ) → i < count → bytes_of (blocks_of (slice i count ledger)) ≡ 2 ^ class_of (get_or ledger i 0) + bytes_of (blocks_of (slice (i + 1) count ledger))
-  allocated-step i h = ap (λ (ws : List ℕ). bytes_of (blocks_of ws)) (rest i h)
+  pub allocated-step : (i : ℕ) → i < length ws → bytes_of (blocks_of (drop i ws)) ≡ 2 ^ class_of (get_or ws i 0) + bytes_of (blocks_of (drop (i + 1) ws))
+  allocated-step i h = ap (λ (xs : List ℕ). bytes_of (blocks_of xs)) (rest i h)
 
-  pub allocated-end : (i : ℕ) → count ≤ i → bytes_of (blocks_of (slice i count ledger)) ≡ 0
-  allocated-end i h = ap (λ (ws : List ℕ). bytes_of (blocks_of ws)) (none i h)
+  pub allocated-end : (i : ℕ) → length ws ≤ i → bytes_of (blocks_of (drop i ws)) ≡ 0
+  allocated-end i h = ap (λ (xs : List ℕ). bytes_of (blocks_of xs)) (none i h)

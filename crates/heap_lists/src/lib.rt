@@ -6,10 +6,3 @@
 mod free;
 
 pub use free::{free_lists, placed};
-
-// What a test of free blocks found: whether all is well, and then their bytes.
-#[derive(Clone, Copy)]
-pub struct Tally {
-    pub ok: bool,
-    pub bytes: u64,
-}

@@ -7,7 +7,7 @@ use lib.Pow.{pow_mono}
 use lib.ListN.{length, get_or, set, length-set}
 use lib.Seq.{get_or-set_same}
 use Rattle.linked_list.specs.Links.{next, popped}
-use Rattle.linked_list.specs.declared.Popped.TheVariants.{Block, Nothing}
+use Rattle.std.specs.Prelude.{Some, None}
 use Rattle.linked_list.specs.declared.Taken.{Taken}
 use Rattle.heap_state.specs.Lists.{Memory, head, push, pop, split, split_down}
 use Rattle.std.specs.Prelude.{Ok}
@@ -29,7 +29,7 @@ halving-start from class m l h = record { rest = refl; block = refl; low = h; hi
 
 -- ---- what a pop says
 
-pub nothing-popped : (first : ℕ) (arena : List ℕ) → popped first arena ≡ Nothing → first ≡ 0
+pub nothing-popped : (first : ℕ) (arena : List ℕ) → popped first arena ≡ None → first ≡ 0
 nothing-popped zero arena e = refl
 nothing-popped (suc a) arena e = let w : ◌≡◌ {A = ℕ} 0 1 = cc in omega arith
 
@@ -38,7 +38,7 @@ pub record BlockPopped (first : ℕ) (arena : List ℕ) (t : Taken) : Type 0 whe
   pub block : t.block ≡ first
   pub link : t.head ≡ next arena first
 
-pub block-popped : (first : ℕ) (arena : List ℕ) (t : Taken) → popped first arena ≡ Block t → BlockPopped first arena t
+pub block-popped : (first : ℕ) (arena : List ℕ) (t : Taken) → popped first arena ≡ Some t → BlockPopped first arena t
 block-popped zero arena t e = let w : ◌≡◌ {A = ℕ} 0 1 = cc in absurd (no_way w)
   where
     no_way : ◌≡◌ {A = ℕ} 0 1 → ⊥
@@ -90,7 +90,7 @@ split_by k b size m m₁ m₂ m₃ h e₁ e₂ e₃ eb es =
 
 -- the first block of class k is popped, and its halves are pushed
 pub halving-turn : (from class k : ℕ) (m₀ m₂ m₃ : Memory) (heads arena : List ℕ) (t : Taken) (size : ℕ) → from < 33 → class < k
-    → Halving from class m₀ (mem heads arena) k → popped (get_or heads k 0) arena ≡ Block t → size ≡ size_of (k - 1)
+    → Halving from class m₀ (mem heads arena) k → popped (get_or heads k 0) arena ≡ Some t → size ≡ size_of (k - 1)
     → m₂ ≡ push (k - 1) (t.block + size) (mem (set heads k t.head) arena) → m₃ ≡ push (k - 1) t.block m₂ → Halving from class m₀ m₃ (k - 1)
 halving-turn from class k m₀ m₂ m₃ heads arena t size f more h e es e₂ e₃ =
     let p = block-popped (get_or heads k 0) arena t e in
@@ -115,7 +115,7 @@ upper_fits k from size top block h some e f l b =
 
 -- no halving is left: the block is the first of its class
 pub taken : (from class k : ℕ) (m₀ : Memory) (heads arena : List ℕ) (t : Taken) → k ≤ class → Halving from class m₀ (mem heads arena) k
-    → popped (get_or heads class 0) arena ≡ Block t → TakenOut from class m₀ (Ok t.block) (mem (set heads class t.head) arena)
+    → popped (get_or heads class 0) arena ≡ Some t → TakenOut from class m₀ (Ok t.block) (mem (set heads class t.head) arena)
 unfolding split_down
 taken from class k m₀ heads arena t out h e =
     let p = block-popped (get_or heads class 0) arena t e in

@@ -4,7 +4,7 @@ ghost use Rattle.heap_state.specs.Lists.{push, pop, push_all, release};
 ghost use Rattle.heap_moves.specs.Moves.{mem, Servable, TakenOut, taken_out, released};
 
 use answers::{Answer, Refusal};
-use linked_list::{Popped, Previous};
+use linked_list::Previous;
 
 // The block becomes the first of its class.
 fn push(heads: &mut [u64; 33], arena: &mut [u64], class: u64, block: u64)
@@ -33,7 +33,7 @@ pub fn take_block(heads: &mut [u64; 33], arena: &mut [u64], from: u64, class: u6
     let mut k = from;
     while class < k {
         let popped = linked_list::pop(heads[k as usize], arena);
-        let Popped::Block(first) = popped else {
+        let Some(first) = popped else {
             return Err(Refusal::NoBlock);
         };
         heads[k as usize] = first.head;
@@ -43,7 +43,7 @@ pub fn take_block(heads: &mut [u64; 33], arena: &mut [u64], from: u64, class: u6
         push(heads, arena, k, first.block);
     }
     let popped = linked_list::pop(heads[class as usize], arena);
-    let Popped::Block(first) = popped else {
+    let Some(first) = popped else {
         return Err(Refusal::NoBlock);
     };
     heads[class as usize] = first.head;

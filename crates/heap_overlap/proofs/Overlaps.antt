@@ -5,16 +5,12 @@ use mathlib.Core.List.{List, [], ◌∷◌, ◌++◌, map}
 use Prim.Native.Nat.{ℕ, suc, ◌+◌, ◌-◌, ◌^◌, ◌≤◌, ◌<◌}
 use native.Mathlib.Omega.{arith}
 use lib.Dec.{ltb}
-use lib.ListN.{length, get_or}
-use lib.Seq.{slice, slice-cons}
 use borrow.Author.Tests.{lt-ltb, le-ltb, ltb-true}
 use Rattle.words.proofs.Tests.{same}
-use Rattle.words.proofs.Parts.{slice-past}
-use Rattle.linked_list.specs.Links.{next, nodes}
-use Rattle.linked_list.proofs.Steps.{nodes-end, nodes-none, nodes-step}
 use Rattle.ledger.specs.Ledger.{class_of, address_of, grant_of}
 use Rattle.heap_state.specs.Lists.{Memory, list}
 use Rattle.heap_blocks.specs.Sound.{Block, blk, block_of, free_from}
+use Rattle.heap_blocks.proofs.Asking.{some}
 use Rattle.heap_overlap.specs.Meeting.{meets, meets_block}
 
 -- ---- one block
@@ -32,36 +28,16 @@ module _ (address size start end : ℕ) where
   pub inside-meets : address < end → start < address → true ≡ meets_block address size start end
   inside-meets h l = rw (lt-ltb address end h, lt-ltb start (address + size) (omega arith))
 
--- ---- one list
+-- ---- blocks one by one
 
-module _ (start end : ℕ) (some : start < end) where
-  meets-first : (k a : ℕ) (bs : List Block) → meets start end (blk k a ∷ bs) ≡ meets_block a (2 ^ k) start end || meets start end bs
-  meets-first k a bs = rw (lt-ltb start end some)
+module _ (start end : ℕ) (some-bytes : start < end) where
+  pub meets-nodes : (k : ℕ) (xs : List ℕ) → meets start end (map (blk k) xs) ≡ some (λ x. meets_block x (2 ^ k) start end) xs
+  meets-nodes k [] = refl
+  meets-nodes k (x ∷ xs) = rw (lt-ltb start end some-bytes, meets-nodes k xs) refl
 
-  module _ (class : ℕ) (arena : List ℕ) (node left : ℕ) where
-    abbrev rest : ℕ → ℕ → Bool
-    rest n a = meets start end (map (blk class) (nodes n arena a))
-
-    pub list-end : node ≡ 0 → false ≡ rest left node
-    list-end e = rw (e, nodes-end left arena)
-
-    pub list-none : left ≤ 0 → false ≡ rest left node
-    list-none h = rw (nodes-none left arena node h)
-
-    step : 0 < left → (node ≡ 0 → ⊥) → rest left node ≡ meets_block node (2 ^ class) start end || rest (left - 1) (next arena node)
-    step h q =
-        let e : nodes left arena node ≡ node ∷ nodes (left - 1) arena (next arena node) = nodes-step left (left - 1) arena node (omega arith) q in
-        rw e (meets-first class node (map (blk class) (nodes (left - 1) arena (next arena node))))
-
-    module _ (t : Bool) (size : ℕ) (some_left : 0 < left) (some-node : node ≡ 0 → ⊥) (is : size ≡ 2 ^ class) (told : t ≡ meets_block node size start end) where
-      test : meets_block node (2 ^ class) start end ≡ t
-      test = rw (← is) (sym told)
-
-      pub list_hit : t ≡ true → true ≡ rest left node
-      list_hit e = sym (step some_left some-node ∙ rw (test, e))
-
-      pub list_miss : t ≡ false → rest (left - 1) (next arena node) ≡ rest left node
-      list_miss e = sym (step some_left some-node ∙ rw (test, e))
+  pub meets-records : (ws : List ℕ) → meets start end (map block_of (map grant_of ws)) ≡ some (λ w. meets_block (address_of w) (2 ^ class_of w) start end) ws
+  meets-records [] = refl
+  meets-records (w ∷ ws) = rw (lt-ltb start end some-bytes, meets-records ws) refl
 
 -- ---- all lists
 
@@ -92,27 +68,3 @@ module _ (s e k : ℕ) (m : Memory) where
 
   pub free-miss : (t : Bool) → k < 33 → t ≡ meets s e (map (blk k) (list k m)) → t ≡ false → from (k + 1) ≡ from k
   free-miss t h told e = sym (class-step h ∙ rw (← told, e))
-
--- ---- the ledger: the records from i up to, not including, count
-
-module _ (s e : ℕ) (some : s < e) (count : ℕ) (ledger : List ℕ) where
-  abbrev granted : ℕ → Bool
-  granted i = meets s e (map block_of (map grant_of (slice i count ledger)))
-
-  pub granted-none : (i : ℕ) → count ≤ i → false ≡ granted i
-  granted-none i h = rw (slice-past i count ledger h)
-
-  module _ (i : ℕ) (more : i < count) (room : count ≤ length ledger) (t : Bool) (class address size : ℕ) (class-is : class ≡ class_of (get_or ledger i 0))
-      (address_is : address ≡ address_of (get_or ledger i 0)) (is : size ≡ 2 ^ class) (told : t ≡ meets_block address size s e) where
-    record-step : granted i ≡ t || granted (i + 1)
-    record-step =
-        let one : i + 1 ≡ suc i = omega arith in
-        ap (λ (ws : List ℕ). meets s e (map block_of (map grant_of ws))) (slice-cons i count ledger 0 more room)
-        ∙ meets-first s e some (class_of (get_or ledger i 0)) (address_of (get_or ledger i 0)) (map block_of (map grant_of (slice (suc i) count ledger)))
-        ∙ rw (one, told, is, class-is, address_is)
-
-    pub granted-hit : t ≡ true → true ≡ granted i
-    granted-hit q = sym (record-step ∙ rw q)
-
-    pub granted-miss : t ≡ false → granted (i + 1) ≡ granted i
-    granted-miss q = sym (record-step ∙ rw q)

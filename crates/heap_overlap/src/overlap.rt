@@ -1,10 +1,12 @@
 // Whether a block, free or granted, has a byte in a range: list by list, and record by record.
 ghost use Rattle.std.specs.Prelude.{◌≡◌, map, ◌≤◌, ◌<◌, length};
-ghost use Rattle.linked_list.specs.Links.{nodes};
 ghost use Rattle.ledger.specs.Ledger.{grants};
 ghost use Rattle.heap_blocks.specs.Sound.{blk, block_of, free_from};
 ghost use Rattle.heap_moves.specs.Moves.{mem};
 ghost use Rattle.heap_overlap.specs.Meeting.{meets, meets_block};
+
+use ledger::{address_of, class_of};
+use linked_list::{Nodes, iter};
 
 // Whether a block of this size at the address has a byte in [start, end).
 fn block_meets(address: u64, size: u64, start: u64, end: u64) -> bool
@@ -20,25 +22,13 @@ fn block_meets(address: u64, size: u64, start: u64, end: u64) -> bool
     true
 }
 
-// Whether a block of the list, all of the class, has a byte in [start, end), which is not empty.
-fn list_meets(arena: &[u64], head: u64, class: u64, start: u64, end: u64) -> bool
+// Whether a block of the class, at one of these nodes, has a byte in [start, end), which is not empty.
+fn list_meets(mut nodes: Nodes<'_>, class: u64, start: u64, end: u64) -> bool
     requires { (class < 33) × (start < end) }
-    ensures { result ≡ meets start end (map (blk class) (nodes (length arena.now) arena.now head)) }
+    ensures { result ≡ meets start end (map (blk class) nodes.entry) }
 {
     let size = blocks::size_of(class);
-    let mut node = head;
-    let mut left = arena.len();
-    while 0 < left {
-        if node == 0 {
-            return false;
-        }
-        if block_meets(node, size, start, end) {
-            return true;
-        }
-        node = linked_list::next(arena, node);
-        left -= 1;
-    }
-    false
+    nodes.any(|node| block_meets(node, size, start, end))
 }
 
 // Whether a free block has a byte in [start, end), which is not empty.
@@ -46,12 +36,11 @@ pub fn free_meets(heads: &[u64; 33], arena: &[u64], start: u64, end: u64) -> boo
     requires { start < end }
     ensures { result ≡ meets start end (free_from 33 0 (mem heads.now arena.now)) }
 {
-    let mut k: u64 = 0;
-    while k < 33 {
-        if list_meets(arena, heads[k as usize], k, start, end) {
+    for k in 0..33 {
+        let nodes = iter(heads[k], arena, arena.len());
+        if list_meets(nodes, k as u64, start, end) {
             return true;
         }
-        k += 1;
     }
     false
 }
@@ -61,18 +50,10 @@ pub fn granted_meets(ledger: &[u64], count: u64, start: u64, end: u64) -> bool
     requires { (count ≤ length ledger.now) × (start < end) }
     ensures { result ≡ meets start end (map block_of (grants count ledger.now)) }
 {
-    let mut i: u64 = 0;
-    while i < count {
-        let w = ledger[i as usize];
-        if block_meets(
-            ledger::address_of(w),
-            1u64 << ledger::class_of(w),
-            start,
-            end,
-        ) {
-            return true;
-        }
-        i += 1;
-    }
-    false
+    ledger[..count as usize].iter().any(|w| block_meets(
+        address_of(*w),
+        1u64 << class_of(*w),
+        start,
+        end,
+    ))
 }

@@ -1,12 +1,12 @@
 // Whether blocks are disjoint: each free block is compared in pairs with every block after it, free or granted. (Granted blocks stand in
 // the order of their addresses, so among themselves each is compared with the one before it, when the records are read.)
-ghost use Rattle.std.specs.Prelude.{◌≡◌, ◌||◌, ◌++◌, ◌+◌, ◌≤◌, ◌<◌, leb, length, take, get_or};
+ghost use Rattle.std.specs.Prelude.{◌≡◌, ◌||◌, ◌++◌, ◌+◌, ◌≤◌, ◌<◌, leb, length, map, take, get_or};
 ghost use Rattle.heap_blocks.specs.Sound.{blk, apart_from};
 ghost use Rattle.heap_blocks.specs.Parts.{list_blocks, free_up, blocks_of};
 ghost use Rattle.heap_pairs.specs.Pairs.{later_blocks, crossb};
 
 use ledger::{address_of, class_of};
-use linked_list::next;
+use linked_list::{Nodes, iter};
 
 // Two blocks have no byte in common; by differences, which fit where sums may not.
 fn apart(a: u64, size: u64, b: u64, other: u64) -> bool
@@ -19,33 +19,14 @@ fn apart(a: u64, size: u64, b: u64, other: u64) -> bool
     other <= a - b
 }
 
-// A block and the blocks of a list from a node on, at most so many.
-fn apart_from_list(
-    class: u64,
-    address: u64,
-    other: u64,
-    head: u64,
-    arena: &[u64],
-    most: usize,
-) -> bool
+// A block and the blocks of a class at these nodes.
+fn apart_from_list(class: u64, address: u64, other: u64, mut nodes: Nodes<'_>) -> bool
     requires { (class < 64) × (other < 64) }
-    ensures { result ≡ apart_from (blk class address) (list_blocks other most arena.now head) }
+    ensures { result ≡ apart_from (blk class address) (map (blk other) nodes.entry) }
 {
     let size = 1u64 << class;
     let bytes = 1u64 << other;
-    let mut node = head;
-    let mut left = most;
-    while node != 0 {
-        if left == 0 {
-            return true;
-        }
-        if !apart(address, size, node, bytes) {
-            return false;
-        }
-        left -= 1;
-        node = next(arena, node);
-    }
-    true
+    nodes.all(|node| apart(address, size, node, bytes))
 }
 
 // A block and the lists of the classes from `from` on.
@@ -53,80 +34,55 @@ fn apart_from_lists(class: u64, address: u64, from: usize, heads: &[u64; 33], ar
     requires { class < 64 }
     ensures { result ≡ apart_from (blk class address) (free_up from heads.now arena.now) }
 {
-    let mut other = from;
-    while other < 33 {
-        if !apart_from_list(
-            class,
-            address,
-            other as u64,
-            heads[other],
-            arena,
-            arena.len(),
-        ) {
+    for other in from..33 {
+        let nodes = iter(heads[other], arena, arena.len());
+        if !apart_from_list(class, address, other as u64, nodes) {
             return false;
         }
-        other += 1;
     }
     true
 }
 
 // A block and the granted ones.
-fn apart_from_records(class: u64, address: u64, ledger: &[u64], count: usize) -> bool
-    requires { (class < 64) × (count ≤ length ledger.now) }
-    ensures { result ≡ apart_from (blk class address) (blocks_of (take count ledger.now)) }
+fn apart_from_records(class: u64, address: u64, records: &[u64]) -> bool
+    requires { class < 64 }
+    ensures { result ≡ apart_from (blk class address) (blocks_of records.now) }
 {
     let size = 1u64 << class;
-    let mut i: usize = 0;
-    while i < count {
-        let w = ledger[i];
-        if !apart(address, size, address_of(w), 1u64 << class_of(w)) {
-            return false;
-        }
-        i += 1;
-    }
-    true
+    records.iter().all(|w| apart(address, size, address_of(*w), 1u64 << class_of(*w)))
 }
 
 // A node of a list and every block after it: the nodes after it, the lists of higher classes, and the granted blocks.
 fn node_apart(
     class: usize,
     node: u64,
-    after: u64,
-    left: usize,
+    after: Nodes<'_>,
     heads: &[u64; 33],
     arena: &[u64],
-    ledger: &[u64],
-    count: usize,
+    records: &[u64],
 ) -> bool
-    requires { (class < 33) × (count ≤ length ledger.now) }
-    ensures { result ≡ apart_from (blk class node) (list_blocks class left arena.now after ++ later_blocks class heads.now arena.now (take count ledger.now)) }
+    requires { class < 33 }
+    ensures { result ≡ apart_from (blk class node) (map (blk class) after.entry ++ later_blocks class heads.now arena.now records.now) }
 {
-    if !apart_from_list(class as u64, node, class as u64, after, arena, left) {
+    if !apart_from_list(class as u64, node, class as u64, after) {
         return false;
     }
     if !apart_from_lists(class as u64, node, class + 1, heads, arena) {
         return false;
     }
-    apart_from_records(class as u64, node, ledger, count)
+    apart_from_records(class as u64, node, records)
 }
 
 // Each node of a class's list and every block after it.
-fn class_apart(class: usize, heads: &[u64; 33], arena: &[u64], ledger: &[u64], count: usize) -> bool
-    requires { (class < 33) × (count ≤ length ledger.now) }
-    ensures { result ≡ crossb (list_blocks class (length arena.now) arena.now (get_or heads.now class 0)) (later_blocks class heads.now arena.now (take count ledger.now)) }
+fn class_apart(class: usize, heads: &[u64; 33], arena: &[u64], records: &[u64]) -> bool
+    requires { class < 33 }
+    ensures { result ≡ crossb (list_blocks class (length arena.now) arena.now (get_or heads.now class 0)) (later_blocks class heads.now arena.now records.now) }
 {
-    let mut left = arena.len();
-    let mut node = heads[class];
-    while node != 0 {
-        if left == 0 {
-            return true;
-        }
-        left -= 1;
-        let after = next(arena, node);
-        if !node_apart(class, node, after, left, heads, arena, ledger, count) {
+    let mut nodes = iter(heads[class], arena, arena.len());
+    while let Some(node) = nodes.next() {
+        if !node_apart(class, node, nodes.rest(), heads, arena, records) {
             return false;
         }
-        node = after;
     }
     true
 }
@@ -136,12 +92,11 @@ pub fn free_apart(heads: &[u64; 33], arena: &[u64], ledger: &[u64], count: usize
     requires { count ≤ length ledger.now }
     ensures { result ≡ crossb (free_up 0 heads.now arena.now) (blocks_of (take count ledger.now)) }
 {
-    let mut class: usize = 0;
-    while class < 33 {
-        if !class_apart(class, heads, arena, ledger, count) {
+    let records = &ledger[..count];
+    for class in 0..33 {
+        if !class_apart(class, heads, arena, records) {
             return false;
         }
-        class += 1;
     }
     true
 }

@@ -37,33 +37,22 @@ fn record_ok(order: u64, bytes: u64, floor: u64, w: u64) -> bool
     placed(class_of(w), address_of(w), bytes)
 }
 
-// The first `count` records, and their sums.
-pub fn records(order: u64, bytes: u64, ledger: &[u64], count: usize) -> Sums
+// The first `count` records, and their sums; none where one is wrong.
+pub fn records(order: u64, bytes: u64, ledger: &[u64], count: usize) -> Option<Sums>
     requires { (order ≤ 33) × (count ≤ length ledger.now) × (length ledger.now ≤ 65535) }
     ensures { Summed (grantedb order bytes 0 (take count ledger.now)) (take count ledger.now) result }
 {
     let mut floor: u64 = 0;
     let mut user: u64 = 0;
     let mut allocated: u64 = 0;
-    let mut i: usize = 0;
-    while i < count {
-        let w = ledger[i];
+    for &w in &ledger[..count] {
         if !record_ok(order, bytes, floor, w) {
-            return Sums {
-                ok: false,
-                user: 0,
-                allocated: 0,
-            };
+            return None;
         }
         let size = 1u64 << class_of(w);
         user += requested_of(w);
         allocated += size;
         floor = address_of(w) + size;
-        i += 1;
     }
-    Sums {
-        ok: true,
-        user: user,
-        allocated: allocated,
-    }
+    Some(Sums { user, allocated })
 }

@@ -7,10 +7,9 @@ mod granted;
 
 pub use granted::records;
 
-// What a test of ledger records found: whether all is well, and then the sums of requested bytes and of block sizes.
+// The sums of requested bytes and of block sizes, which a test of ledger records tells if all is well.
 #[derive(Clone, Copy)]
 pub struct Sums {
-    pub ok: bool,
     pub user: u64,
     pub allocated: u64,
 }

@@ -1,6 +1,6 @@
 -- The parts of the soundness test come to `soundb`. Assumes nothing.
 use mathlib.Core.Path.{◌≡◌, sym, ◌∙◌}
-use mathlib.Core.Bool.{true, ◌&&◌}
+use mathlib.Core.Bool.{true, false, ◌&&◌}
 use mathlib.Core.List.{List, ◌++◌, map}
 use Prim.Native.Nat.{ℕ, ◌+◌, ◌*◌, ◌^◌, ◌<◌}
 use native.Mathlib.Omega.{arith}
@@ -9,7 +9,7 @@ use lib.ListN.{length, take, drop}
 use lib.Seq.{length-take-le}
 use borrow.Author.Tests.{eq-eqb}
 use Rattle.words.specs.Words.{zerosb}
-use Rattle.words.proofs.Tests.{both, join, same}
+use Rattle.words.proofs.Tests.{both, join, no, same}
 use Rattle.ledger.specs.Ledger.{grant_of, recordsb}
 use Rattle.heap_state.specs.declared.Heap.{Heap}
 use Rattle.heap_state.specs.State.{lengthsb, orderb}
@@ -103,3 +103,7 @@ module _ (h : Heap) (arena ledger : List ℕ) where
   -- where the rest is well, the heap is sound just where the pairs are apart
   pub sound-cross : Tested h arena ledger → crossb (free_up 0 h.heads arena) (blocks_of (take h.count ledger)) ≡ soundb h arena ledger
   sound-cross t = same _ _ (λ e. sound-true h arena ledger (whole t e)) (λ e. (tested (sound-fact h arena ledger e)).1)
+
+  -- where a part fails the heap is not sound
+  pub unsound : (Tested h arena ledger → ⊥) → false ≡ soundb h arena ledger
+  unsound f = sym (no _ (λ e. f (tested (sound-fact h arena ledger e)).0))

@@ -15,20 +15,14 @@ pub fn sound(h: Heap, arena: &[u64], ledger: &[u64]) -> bool
     if !ranges_ok(h.order, h.count, arena.len(), ledger.len()) {
         return false;
     }
-    let free = free_lists(h.order, &h.heads, arena);
-    if !free.ok {
+    let Some(free) = free_lists(h.order, &h.heads, arena) else {
         return false;
-    }
+    };
     let count = h.count as usize;
-    let granted = records(
-        h.order,
-        arena.len() as u64 * Heap::WORD_BYTES,
-        ledger,
-        count,
-    );
-    if !granted.ok {
+    let bytes = arena.len() as u64 * Heap::WORD_BYTES;
+    let Some(granted) = records(h.order, bytes, ledger, count) else {
         return false;
-    }
+    };
     if !zeros_from(ledger, count) {
         return false;
     }
@@ -38,7 +32,7 @@ pub fn sound(h: Heap, arena: &[u64], ledger: &[u64]) -> bool
     if h.allocated != granted.allocated {
         return false;
     }
-    if h.total != granted.allocated + free.bytes {
+    if h.total != granted.allocated + free {
         return false;
     }
     free_apart(&h.heads, arena, ledger, count)

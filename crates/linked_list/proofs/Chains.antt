@@ -10,7 +10,7 @@ use lib.Seq.{get_or-set_same, get_or-set_other}
 use borrow.Author.Tests.{eqb-true}
 use Rattle.linked_list.specs.Links.{next, nodes, empty, pushed, popped}
 use Rattle.linked_list.specs.Chains.{Chain, Lists, Away, Distinct}
-use Rattle.linked_list.specs.declared.Popped.TheVariants.{Block, Nothing}
+use Rattle.std.specs.Prelude.{Some, None}
 use Rattle.linked_list.proofs.Steps.{pop-block}
 
 -- ---- a chain is what a walk yields
@@ -105,10 +105,10 @@ push-chain arena head item xs c some inside w =
     (refl, some, rw e (frame arena head (item / 8) head xs c w))
 
 pub pop-chain : (arena : List ℕ) (head x : ℕ) (xs : List ℕ) → Chain arena head (x ∷ xs) →
-    (popped head arena ≡ Block (record { block = x; head = next arena x })) × Chain arena (next arena x) xs
+    (popped head arena ≡ Some (record { block = x; head = next arena x })) × Chain arena (next arena x) xs
 unfolding Chain
 pop-chain arena head x xs c = (rw c.0 (pop-block x arena c.1), c.2)
 
-pub pop-empty : (arena : List ℕ) (head : ℕ) → Chain arena head [] → popped head arena ≡ Nothing
+pub pop-empty : (arena : List ℕ) (head : ℕ) → Chain arena head [] → popped head arena ≡ None
 unfolding Chain
 pop-empty arena head c = let e : head ≡ 0 = c in rw e

@@ -2,16 +2,15 @@
 use mathlib.Core.Path.{◌≡◌, refl, sym, ◌∙◌}
 use mathlib.Core.Bool.{Bool, true, false}
 use mathlib.Core.List.{List, [], ◌∷◌}
-use Prim.Native.Nat.{ℕ, zero, suc, ◌+◌, ◌-◌, ◌≤◌, ◌<◌, min}
+use Prim.Native.Nat.{ℕ, zero, suc, ◌+◌, min}
 use native.Mathlib.Omega.{arith}
 use lib.Dec.{eqb, ltb, leb-suc-suc}
 use lib.ListN.{length, get_or}
 use borrow.Author.Tests.{lt-ltb, eq-eqb, ne_eqb}
-use Rattle.linked_list.specs.Links.{next, nodes, pick_n, position, link_to, compared, searched}
+use Rattle.linked_list.specs.Links.{pick_n, position, link_to, compared, searched}
 use Rattle.linked_list.specs.declared.Previous.{Previous}
 use Rattle.linked_list.specs.declared.Previous.TheVariants.{Head, Word}
 use Rattle.linked_list.specs.declared.Search.{Search}
-use Rattle.linked_list.proofs.Steps.{nodes-end, nodes-none, nodes-step}
 
 abbrev pick_s : Bool → Search → Search → Search
 pick_s true s t = s
@@ -58,34 +57,21 @@ along-is wanted previous n [] = answer refl refl (omega arith)
 along-is wanted previous n (x ∷ xs) =
     along-cons (eqb x wanted) previous n x (position wanted xs) xs (along wanted (Word x) (n + 1) xs) (along-is wanted (Word x) (n + 1) xs)
 
-search_is : (wanted : ℕ) (xs : List ℕ) → along wanted Head 0 xs ≡ searched wanted xs
+pub search_is : (wanted : ℕ) (xs : List ℕ) → along wanted Head 0 xs ≡ searched wanted xs
 search_is wanted xs = along-is wanted Head 0 xs ∙ answer refl (from-head (position wanted xs) xs) (omega arith)
 
--- ---- the search at the loop's numbers: `most - n` nodes may still be compared
+-- ---- the search at the loop's numbers
 
-pub search-start : (wanted most : ℕ) (arena : List ℕ) (head : ℕ) → along wanted Head 0 (nodes (most - 0) arena head) ≡ searched wanted (nodes most arena head)
-search-start wanted most arena head =
-    let e : most - 0 ≡ most = omega arith in
-    rw e (search_is wanted (nodes most arena head))
-
-module _ (wanted : ℕ) (previous : Previous) (n most : ℕ) (arena : List ℕ) (node : ℕ) where
-  pub search-end : node ≡ 0 → along wanted previous n (nodes (most - n) arena node) ≡ record { found = false; previous = previous; compared = n }
+module _ (wanted : ℕ) (s : Search) (all : List ℕ) where
+  pub search-end : all ≡ [] → s.found ≡ false → along wanted s.previous s.compared all ≡ s
   unfolding along
-  search-end e = rw (e, nodes-end (most - n) arena)
+  search-end e f = rw e (answer (sym f) refl refl)
 
-  pub search-out : most ≤ n → along wanted previous n (nodes (most - n) arena node) ≡ record { found = false; previous = previous; compared = n }
-  unfolding along
-  search-out h = rw (nodes-none (most - n) arena node (omega arith))
-
-  module _ (more : n < most) (some : node ≡ 0 → ⊥) where
-    step : nodes (most - n) arena node ≡ node ∷ nodes (most - (n + 1)) arena (next arena node)
-    step = nodes-step (most - n) (most - (n + 1)) arena node (omega arith) some
-
-    pub search-hit : node ≡ wanted → along wanted previous n (nodes (most - n) arena node) ≡ record { found = true; previous = previous; compared = n + 1 }
+  module _ (x : ℕ) (rest : List ℕ) (is : all ≡ x ∷ rest) where
+    pub search-hit : x ≡ wanted → along wanted s.previous s.compared all ≡ record { found = true; previous = s.previous; compared = s.compared + 1 }
     unfolding along
-    search-hit e = rw (step, eq-eqb node wanted e)
+    search-hit e = rw (is, eq-eqb x wanted e)
 
-    pub search-miss : (node ≡ wanted → ⊥) →
-        along wanted previous n (nodes (most - n) arena node) ≡ along wanted (Word node) (n + 1) (nodes (most - (n + 1)) arena (next arena node))
+    pub search-miss : (x ≡ wanted → ⊥) → along wanted s.previous s.compared all ≡ along wanted (Word x) (s.compared + 1) rest
     unfolding along
-    search-miss q = rw (step, ne_eqb node wanted q)
+    search-miss q = rw (is, ne_eqb x wanted q)

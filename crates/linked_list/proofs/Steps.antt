@@ -6,14 +6,14 @@ use Prim.Native.Nat.{ℕ, zero, suc, ◌≤◌}
 use native.Mathlib.Nat.{not-suc-le-zero}
 use borrow.Author.Tests.{eqb-true}
 use Rattle.linked_list.specs.Links.{next, linked, empty, popped, nodes, removed, Left}
-use Rattle.linked_list.specs.declared.Popped.TheVariants.{Block, Nothing}
+use Rattle.std.specs.Prelude.{Some, None}
 use Rattle.linked_list.specs.declared.Previous.{Previous}
 use Rattle.linked_list.specs.declared.Previous.TheVariants.{Head, Word}
 
-pub pop-nothing : (head : ℕ) (arena : List ℕ) → empty head ≡ true → popped head arena ≡ Nothing
+pub pop-nothing : (head : ℕ) (arena : List ℕ) → empty head ≡ true → popped head arena ≡ None
 pop-nothing head arena e = rw (eqb-true head 0 e)
 
-pub pop-block : (head : ℕ) (arena : List ℕ) → (head ≡ 0 → ⊥) → popped head arena ≡ Block (record { block = head; head = next arena head })
+pub pop-block : (head : ℕ) (arena : List ℕ) → (head ≡ 0 → ⊥) → popped head arena ≡ Some (record { block = head; head = next arena head })
 pop-block zero arena q = absurd (q refl)
 pop-block (suc a) arena q = refl
 

@@ -1,11 +1,10 @@
 -- Lists over an arena, from docs/RULES.md, "The heap over an arena": "an address is a byte offset in it; 0 is null. Lists are last in, first out; a
 -- free block's first word holds the next address." A word outside the arena reads as 0, and a store there does nothing.
-use Rattle.std.specs.Prelude.{◌≡◌, Bool, true, false, List, [], ◌∷◌, ℕ, zero, suc, ◌/◌, min, eqb, ltb, length, get_or, set}
-use Rattle.linked_list.specs.declared.Popped.{Popped}
-use Rattle.linked_list.specs.declared.Popped.TheVariants.{Block, Nothing}
+use Rattle.std.specs.Prelude.{◌≡◌, Bool, true, false, Option, Some, None, List, [], ◌∷◌, ℕ, zero, suc, ◌/◌, min, eqb, ltb, length, get_or, set}
 use Rattle.linked_list.specs.declared.Previous.{Previous}
 use Rattle.linked_list.specs.declared.Previous.TheVariants.{Head, Word}
 use Rattle.linked_list.specs.declared.Search.{Search}
+use Rattle.linked_list.specs.declared.Taken.{Taken}
 
 -- the address in a node's word, and the arena with another address there
 abbrev pub next : List ℕ → ℕ → ℕ
@@ -39,9 +38,9 @@ abbrev pub pushed : ℕ → List ℕ → ℕ → Links
 pushed head arena item = record { head = item; words = linked arena item head }
 
 -- "`pop` answers a block or nothing": the head, with the head that is left
-abbrev pub popped : ℕ → List ℕ → Popped
-popped zero arena = Nothing
-popped (suc a) arena = Block (record { block = suc a; head = next arena (suc a) })
+abbrev pub popped : ℕ → List ℕ → Option Taken
+popped zero arena = None
+popped (suc a) arena = Some (record { block = suc a; head = next arena (suc a) })
 
 -- by the place of the previous link, a head or a word: the node's own link is put there
 abbrev pub removed : ℕ → List ℕ → Previous → ℕ → Links

@@ -2,8 +2,8 @@
 ghost use Rattle.std.specs.Prelude.{◌≡◌};
 ghost use Rattle.linked_list.specs.Links.{empty, pushed, popped, Left};
 
+use super::Taken;
 use super::links::{next, set_next};
-use super::{Popped, Taken};
 
 pub fn is_empty(head: u64) -> bool
     ensures { result ≡ empty head }
@@ -20,14 +20,14 @@ pub fn push(head: u64, arena: &mut [u64], item: u64) -> u64
 }
 
 // Takes the first node off the list; its word stays as it is.
-pub fn pop(head: u64, arena: &[u64]) -> Popped
+pub fn pop(head: u64, arena: &[u64]) -> Option<Taken>
     ensures { result ≡ popped head arena.now }
 {
     if is_empty(head) {
-        return Popped::Nothing;
+        return None;
     }
     let after = next(arena, head);
-    Popped::Block(Taken {
+    Some(Taken {
         block: head,
         head: after,
     })

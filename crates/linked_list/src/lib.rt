@@ -3,10 +3,12 @@
 
 #![tactic(auto)]
 
+mod forward;
 mod front;
 mod links;
 mod walk;
 
+pub use forward::{Nodes, iter};
 pub use front::{is_empty, pop, push};
 pub use links::next;
 pub use walk::{find, remove};
@@ -18,12 +20,6 @@ pub struct Taken {
     pub head: u64,
 }
 
-#[derive(Clone, Copy)]
-pub enum Popped {
-    Block(Taken),
-    Nothing,
-}
-
 // The place of the link to a node: the list's head, or the word of the node at this address.
 #[derive(Clone, Copy)]
 pub enum Previous {
@@ -31,6 +27,7 @@ pub enum Previous {
     Word(u64),
 }
 
+// Kept: the place of the last link is promised where the node is not there too, so it stands beside the flag and not in an Option.
 // What a search found: whether the node is there, the place of the last link that was followed, and how many nodes were compared.
 #[derive(Clone, Copy)]
 pub struct Search {

@@ -2,6 +2,7 @@
 ghost use Rattle.std.specs.Prelude.{◌≡◌};
 ghost use Rattle.linked_list.specs.Links.{nodes, removed, searched, Left};
 
+use super::forward::iter;
 use super::links::{next, set_next};
 use super::{Previous, Search};
 
@@ -9,33 +10,20 @@ use super::{Previous, Search};
 pub fn find(head: u64, arena: &[u64], wanted: u64, most: u64) -> Search
     ensures { result ≡ searched wanted (nodes most arena.now head) }
 {
-    let mut node = head;
-    let mut previous = Previous::Head;
-    let mut compared: u64 = 0;
-    while compared < most {
-        if node == 0 {
-            return Search {
-                found: false,
-                previous: previous,
-                compared: compared,
-            };
-        }
-        compared += 1;
-        if node == wanted {
-            return Search {
-                found: true,
-                previous: previous,
-                compared: compared,
-            };
-        }
-        previous = Previous::Word(node);
-        node = next(arena, node);
-    }
-    Search {
+    let mut search = Search {
         found: false,
-        previous: previous,
-        compared: compared,
+        previous: Previous::Head,
+        compared: 0,
+    };
+    for node in iter(head, arena, most as usize) {
+        search.compared += 1;
+        if node == wanted {
+            search.found = true;
+            return search;
+        }
+        search.previous = Previous::Word(node);
     }
+    search
 }
 
 // Takes the node out of the list by the place of the link to it, and answers the list's head, a new one where that link was the head.

@@ -1,9 +1,6 @@
 -- `heap_lists::free::class_list` meets its contract. Assumes nothing.
-use mathlib.Core.Path.{sym, ap}
 use native.Mathlib.Omega.{arith}
 use lib.ListN.{length}
-use Rattle.heap_blocks.specs.Sound.{bytes_of}
-use Rattle.heap_lists.proofs.Tallies.{wrong-is}
 use Rattle.heap_blocks.proofs.Walks.{blocks_end}
 use Rattle.heap_blocks.proofs.Classes.{class-empty, class_low, class-high, class-own}
 use Rattle.heap_lists.proofs.free.class_list.Goals as goal
@@ -11,20 +8,17 @@ use Rattle.heap_lists.proofs.free.class_list.Goals as goal
 pub returns-then-head-eq0 : goal.returns-then-head-eq0
 returns-then-head-eq0 c =
     let a = c.args in
-    record {
-      ok_is = sym (class-empty a.order a.class a.arena.now a.head c.if-head-eq0.true);
-      bytes_are = λ e. sym (ap bytes_of (blocks_end a.class (length a.arena.now) a.arena.now a.head c.if-head-eq0.true));
-    }
+    rw (class-empty a.order a.class a.arena.now a.head c.if-head-eq0.true, blocks_end a.class (length a.arena.now) a.arena.now a.head c.if-head-eq0.true)
 
 pub returns-then-class-lt3 : goal.returns-then-class-lt3
 returns-then-class-lt3 c =
     let a = c.args in
-    wrong-is c.wrong.ensures (class_low a.order a.class a.arena.now a.head c.if-head-eq0.false (omega arith))
+    rw (class_low a.order a.class a.arena.now a.head c.if-head-eq0.false (omega arith))
 
 pub returns-then-class-order : goal.returns-then-class-order
 returns-then-class-order c =
     let a = c.args in
-    wrong-is c.wrong-then-class-order.ensures (class-high a.order a.class a.arena.now a.head c.if-head-eq0.false (omega arith))
+    rw (class-high a.order a.class a.arena.now a.head c.if-head-eq0.false (omega arith))
 
 pub returns : goal.returns
 returns c =

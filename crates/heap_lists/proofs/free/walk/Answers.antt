@@ -1,72 +1,53 @@
--- `heap_lists::free::walk` meets its contract: the nodes left are tested as the whole list is, and their bytes are what is left to add.
--- Assumes nothing.
-use mathlib.Core.Path.{◌≡◌, refl, sym, ap, ◌∙◌}
-use Prim.Native.Nat.{ℕ, suc, ◌*◌, ◌-◌}
+-- `heap_lists::free::walk` meets its contract: the blocks before are in their place and added up. Assumes nothing.
+use mathlib.Core.Path.{◌≡◌, sym, ◌∙◌}
+use mathlib.Core.Logic.{inl}
+use Prim.Native.Nat.{◌≤◌}
 use native.Mathlib.Omega.{arith}
 use lib.ListN.{length}
-use Rattle.linked_list.specs.Links.{next}
-use Rattle.heap_blocks.specs.Sound.{bytes_of}
-use Rattle.heap_blocks.specs.Parts.{list_blocks}
+use Rattle.linked_list.specs.Links.{nodes}
+use Rattle.linked_list.proofs.Chains.{nodes-few}
 use Rattle.blocks.proofs.Powers.{one_shl}
-use Rattle.heap_lists.proofs.Tallies.{wrong-is}
-use Rattle.heap_blocks.proofs.Walks.{blocks_end, blocks_step, list-end, list-out, list-step, walk-fits}
+use Rattle.heap_lists.proofs.Walking.{walk-start, walk-end, walk-long, walk-misplaced, walk-fits, walk-on}
 use Rattle.heap_lists.proofs.free.walk.Goals as goal
 
-pub loop-node-init : goal.loop-node-init
-loop-node-init c =
+pub loop-before-init-derived : goal.loop-before-init-derived
+loop-before-init-derived c =
     let a = c.args in
-    let e : suc (length a.arena.now - 1) ≡ length a.arena.now = omega arith in
-    (refl, omega (arith, ap (λ (n : ℕ). bytes_of (list_blocks a.class n a.arena.now a.head)) e))
+    let all : c.into_iter-before-iterator.result.iter ≡ nodes (length a.arena.now) a.arena.now a.head = cc in
+    let few : length c.into_iter-before-iterator.result.iter ≤ length a.arena.now = rw all (nodes-few (length a.arena.now) a.arena.now a.head) in
+    let none : c.into_iter-before-iterator.result.count ≡ 0 = cc in
+    ((tt, tt, inl (omega arith)), tt)
 
-pub returns-then-left-eq0 : goal.returns-then-left-eq0
-returns-then-left-eq0 c =
-    let l = c.loop-node in
+pub loop-before-init : goal.loop-before-init
+loop-before-init c =
     let a = c.args in
-    let out = list-out (length a.arena.now * 8) a.class l.left a.arena.now l.node c.if-left-eq0.true c.loop-node-test.true in
-    wrong-is c.wrong.ensures (sym l.invariant.0 ∙ out)
+    let all : c.into_iter-before-iterator.result.iter ≡ nodes (length a.arena.now) a.arena.now a.head = cc in
+    let none : c.into_iter-before-iterator.result.count ≡ 0 = cc in
+    rw (all, none) (walk-start a.class a.head a.arena.now (omega arith))
+
+pub returns-then-before-arena : goal.returns-then-before-arena
+returns-then-before-arena c =
+    let a = c.args in
+    walk-long a.class a.head a.arena.now _ _ _ c.loop-before.invariant c.in-Some.node _ c.in-Some.ensures.steps.0 (omega (arith, c.in-Some.ensures.steps.1))
 
 pub returns-then-not-placed : goal.returns-then-not-placed
 returns-then-not-placed c =
-    let l = c.loop-node in
     let a = c.args in
-    let bad = sym c.placed.ensures ∙ c.if-not-placed.true in
-    let step = list-step (length a.arena.now * 8) a.class l.left a.arena.now l.node (l.left - 1) (omega arith) c.loop-node-test.true in
-    wrong-is c.wrong-then-not-placed.ensures (sym l.invariant.0 ∙ step ∙ rw bad)
+    walk-misplaced a.class a.head a.arena.now _ _ _ c.loop-before.invariant c.in-Some.node _ c.in-Some.ensures.steps.0 (sym c.placed.ensures ∙ c.if-not-placed.true)
 
 pub overflow_add-bytes : goal.overflow_add-bytes
 overflow_add-bytes c =
-    let l = c.loop-node in
     let a = c.args in
-    omega (
-      arith,
-      one_shl a.class (omega arith),
-      walk-fits a.class (length a.arena.now) a.arena.now a.head l.bytes l.left l.node c.requires.0 c.requires.2 c.loop-node-test.true l.invariant.1,
-    )
+    omega (arith, one_shl a.class (omega arith), walk-fits a.class a.head a.arena.now _ _ _ c.loop-before.invariant c.in-Some.node _ c.in-Some.ensures.steps.0 c.requires.0 c.requires.2)
 
-pub loop-node-preserved : goal.loop-node-preserved
-loop-node-preserved c =
-    let l = c.loop-node in
+pub loop-before-preserved : goal.loop-before-preserved
+loop-before-preserved c =
     let a = c.args in
-    let m = c.args.arena.now in
-    let good = sym c.placed.ensures ∙ c.if-not-placed.false in
-    let step = list-step (length m * 8) a.class l.left m l.node (l.left - 1) (omega arith) c.loop-node-test.true in
-    let whole = blocks_step a.class (suc l.left) l.left m l.node refl c.loop-node-test.true in
-    let one : l.left ≡ suc (l.left - 1) = omega arith in
-    rw c.next-node.ensures (
-      rw good at (sym step) ∙ l.invariant.0,
-      omega (
-        arith,
-        one_shl a.class (omega arith),
-        ap bytes_of whole,
-        ap (λ (n : ℕ). bytes_of (list_blocks a.class n m (next m l.node))) one,
-      ),
-    )
+    let on = walk-on a.class a.head a.arena.now _ _ _ c.loop-before.invariant c.in-Some.node _ c.in-Some.ensures.steps.0 (λ e. c.if-before-arena.false (omega (arith, c.in-Some.ensures.steps.1)))
+    (sym c.placed.ensures ∙ c.if-not-placed.false) in
+    rw (one_shl a.class (omega arith), c.in-Some.ensures.steps.2) on
 
 pub returns : goal.returns
 returns c =
-    let l = c.loop-node in
     let a = c.args in
-    record {
-      ok_is = sym (list-end (length a.arena.now * 8) a.class l.left a.arena.now l.node c.loop-node-test.false) ∙ l.invariant.0;
-      bytes_are = λ e. omega (arith, ap bytes_of (blocks_end a.class (suc l.left) a.arena.now l.node c.loop-node-test.false));
-    }
+    walk-end a.class a.head a.arena.now _ _ _ c.loop-before.invariant c.in-None.ensures.steps.0.0

@@ -15,13 +15,13 @@ returns-in_default c =
 pub overflow_add-upper : goal.overflow_add-upper
 overflow_add-upper c =
     let l = c.loop-k in
-    let p = block-popped _ _ _ (sym c.pop-popped.ensures ∙ c.in-Block.is) in
+    let p = block-popped _ _ _ (sym c.pop-popped.ensures ∙ c.in-Some.is) in
     omega (arith, upper_fits l.k c.args.from _ _ _ l.invariant.0.high (omega arith) c.size_of.ensures c.requires.is_class c.requires.ends (p.block ∙ l.invariant.0.block))
 
 pub loop-k-preserved : goal.loop-k-preserved
 loop-k-preserved c =
     let l = c.loop-k in (
-      halving-turn c.args.from c.args.class l.k _ _ _ l.heads l.arena _ _ c.requires.is_class c.loop-k-test.true l.invariant.0 (sym c.pop-popped.ensures ∙ c.in-Block.is)
+      halving-turn c.args.from c.args.class l.k _ _ _ l.heads l.arena _ _ c.requires.is_class c.loop-k-test.true l.invariant.0 (sym c.pop-popped.ensures ∙ c.in-Some.is)
           c.size_of.ensures c.push.ensures c.push-in-loop-k.ensures,
       c.push-in-loop-k.auto.arena ∙ c.push.auto.arena ∙ l.invariant.1,
     )
@@ -35,4 +35,4 @@ returns-in_default-popped c =
 pub returns : goal.returns
 returns c =
     let l = c.loop-k in
-    taken _ _ l.k _ l.heads l.arena _ c.loop-k-test.false l.invariant.0 (sym c.pop-popped-2.ensures ∙ c.in-Block-popped.is)
+    taken _ _ l.k _ l.heads l.arena _ c.loop-k-test.false l.invariant.0 (sym c.pop-popped-2.ensures ∙ c.in-Some-popped.is)

@@ -11,13 +11,13 @@ pub returns-then-list_meets : goal.returns-then-list_meets
 returns-then-list_meets c =
     let l = c.loop-k in
     let s = c.args in
-    free-hit s.start s.end l.k (mem s.heads.now s.arena.now) _ c.loop-k-test.true c.list_meets.ensures c.if-list_meets.true ∙ l.invariant
+    free-hit s.start s.end l.k (mem s.heads.now s.arena.now) _ c.loop-k-test.true (rw c.iter-nodes.ensures at c.list_meets.ensures) c.if-list_meets.true ∙ l.invariant
 
 pub loop-k-preserved : goal.loop-k-preserved
 loop-k-preserved c =
     let l = c.loop-k in
     let s = c.args in
-    free-miss s.start s.end l.k (mem s.heads.now s.arena.now) _ c.loop-k-test.true c.list_meets.ensures c.if-list_meets.false ∙ l.invariant
+    free-miss s.start s.end l.k (mem s.heads.now s.arena.now) _ c.loop-k-test.true (rw c.iter-nodes.ensures at c.list_meets.ensures) c.if-list_meets.false ∙ l.invariant
 
 pub returns : goal.returns
 returns c =

@@ -8,6 +8,3 @@ use Rattle.heap_overlap.proofs.overlap.free_meets.Given as goal
 
 abbrev pub invariant-loop-k : goal.invariant-loop-k
 invariant-loop-k l = meets l.start l.end (free_from (33 - l.k) l.k (mem l.heads l.arena)) ≡ meets l.start l.end (free_from 33 0 (mem l.heads l.arena))
-
-abbrev pub decreases-loop-k : goal.decreases-loop-k
-decreases-loop-k l = 33 - l.k

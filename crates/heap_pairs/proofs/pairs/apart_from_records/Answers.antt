@@ -1,43 +1,29 @@
--- `heap_pairs::pairs::apart_from_records` meets its contract: the records left are compared as all are. Assumes nothing.
-use mathlib.Core.Path.{refl, sym, ◌∙◌}
-use Prim.Native.Nat.{◌<◌}
+-- `heap_pairs::pairs::apart_from_records` meets its contract: the closure compares the block with that of a record. Assumes nothing.
+use mathlib.Core.Path.{◌≡◌, refl, sym, ◌∙◌}
+use mathlib.Core.Bool.{Bool, true, false, ◌||◌}
+use Prim.Native.Nat.{ℕ, ◌+◌, ◌*◌, ◌%◌, ◌^◌, ◌<◌}
 use native.Mathlib.Omega.{arith}
-use lib.Pow.{pow_pos}
-use Rattle.heap_blocks.specs.Sound.{blk}
+use lib.Dec.{leb}
+use lib.ListN.{get_or}
+use borrow.Author.Rules.{rules}
+use borrow.Author.Tests.{tests}
+use Rattle.std.proofs.lemmas.Iterator.{cases_from_all, YieldsList-from_slice}
 use Rattle.blocks.proofs.Powers.{one_shl}
-use Rattle.heap_pairs.proofs.Crossing.{records-step, records-end}
+use Rattle.ledger.specs.Ledger.{class_of, address_of}
+use Rattle.heap_blocks.specs.Sound.{blk, apart}
+use Rattle.heap_blocks.proofs.Asking.{every, every-is, every-same}
+use Rattle.heap_pairs.proofs.Crossing.{from-records}
 use Rattle.heap_pairs.proofs.pairs.apart_from_records.Goals as goal
-
-pub loop-i-init : goal.loop-i-init
-loop-i-init c = refl
-
-pub overflow_shl-class_of : goal.overflow_shl-class_of
-overflow_shl-class_of c = omega (arith, c.type_inv.ledger c.loop-i.i)
-
-pub apart-requires : goal.apart-requires
-apart-requires c =
-    let k : c.class_of.result < 64 = omega (arith, c.type_inv.ledger c.loop-i.i) in
-    rw (one_shl c.args.class c.requires.0, one_shl c.class_of.result k) (pow_pos c.args.class, pow_pos c.class_of.result)
-
-pub returns-then-not-apart : goal.returns-then-not-apart
-returns-then-not-apart c =
-    let a = c.args in
-    let step = records-step (blk a.class a.address) a.ledger.now a.count c.requires.1 c.loop-i.i (omega arith) in
-    let k : c.class_of.result < 64 = omega (arith, c.type_inv.ledger c.loop-i.i) in
-    let e = rw (one_shl a.class c.requires.0, one_shl c.class_of.result k, c.class_of.ensures, c.address_of.ensures) at c.apart.ensures in
-    let bad = sym e ∙ c.if-not-apart.true in
-    sym (step ∙ rw bad) ∙ c.loop-i.invariant
-
-pub loop-i-preserved : goal.loop-i-preserved
-loop-i-preserved c =
-    let a = c.args in
-    let step = records-step (blk a.class a.address) a.ledger.now a.count c.requires.1 c.loop-i.i (omega arith) in
-    let k : c.class_of.result < 64 = omega (arith, c.type_inv.ledger c.loop-i.i) in
-    let e = rw (one_shl a.class c.requires.0, one_shl c.class_of.result k, c.class_of.ensures, c.address_of.ensures) at c.apart.ensures in
-    let good = sym e ∙ c.if-not-apart.false in
-    rw good at (sym step) ∙ c.loop-i.invariant
 
 pub returns : goal.returns
 returns c =
     let a = c.args in
-    sym (records-end (blk a.class a.address) a.ledger.now a.count c.requires.1 c.loop-i.i (omega arith)) ∙ c.loop-i.invariant
+    let size = 1 * 2 ^ a.class % 2 ^ 64 in
+    let test : ℕ → Bool = λ w. leb (a.address + size) (address_of w) || leb (address_of w + 1 * 2 ^ class_of w % 2 ^ 64) a.address in
+    let m = cases_from_all _ _ c.all.result (λ x. test x ≡ true) (λ x. test x ≡ false) c.all.ensures.ran
+    (YieldsList-from_slice a.records.now cc) (λ x q k. search (rules, tests)) (λ x q k. search (rules, tests)) in
+    let all : c.all.result ≡ every test a.records.now = every-is test c.all.result a.records.now m in
+    let same = every-same test (λ w. apart (blk a.class a.address) (blk (class_of w) (address_of w))) a.records.now (λ k l.
+    let small : class_of (get_or a.records.now k 0) < 64 = omega (arith, c.type_inv.records k) in
+    rw (one_shl a.class c.requires, one_shl (class_of (get_or a.records.now k 0)) small) refl) in
+    all ∙ same ∙ sym (from-records (blk a.class a.address) a.records.now)

@@ -1,6 +1,5 @@
 -- `heap_pairs::pairs::free_apart` meets its contract: the classes left are compared as all are. Assumes nothing.
 use mathlib.Core.Path.{◌≡◌}
-use Prim.Native.Nat.{◌-◌}
 use lib.ListN.{take}
 use Rattle.heap_blocks.specs.Parts.{free_up, blocks_of}
 use Rattle.heap_pairs.specs.Pairs.{crossb}
@@ -8,6 +7,3 @@ use Rattle.heap_pairs.proofs.pairs.free_apart.Given as goal
 
 abbrev pub invariant-loop-class : goal.invariant-loop-class
 invariant-loop-class l = crossb (free_up l.class l.heads l.arena) (blocks_of (take l.count l.ledger)) ≡ crossb (free_up 0 l.heads l.arena) (blocks_of (take l.count l.ledger))
-
-abbrev pub decreases-loop-class : goal.decreases-loop-class
-decreases-loop-class l = 33 - l.class

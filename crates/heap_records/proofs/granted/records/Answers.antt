@@ -1,72 +1,32 @@
--- `heap_records::granted::records` meets its contract: the records left are tested as all are, and their sums are what is left to add.
--- Assumes nothing.
-use mathlib.Core.Path.{◌≡◌, refl, sym, ap, ◌∙◌}
-use mathlib.Core.Bool.{false≢true}
+-- `heap_records::granted::records` meets its contract: the records before passed and are added up. Assumes nothing.
+use mathlib.Core.Path.{◌≡◌, sym, ap, ◌∙◌}
 use Prim.Native.Nat.{ℕ, ◌*◌, ◌%◌, ◌^◌}
 use native.Mathlib.Omega.{arith}
-use lib.ListN.{get_or}
+use lib.ListN.{get_or, take}
 use Rattle.ledger.specs.Ledger.{class_of}
 use Rattle.blocks.proofs.Powers.{one_shl}
-use Rattle.heap_blocks.proofs.Records.{next-fact, size_small, granted-step, granted-end, user-step, user-end, allocated-step, allocated-end}
+use Rattle.heap_blocks.proofs.Records.{next-fact}
+use Rattle.heap_records.proofs.Passing.{passed-none, passed-all, passed-wrong, passed-on}
 use Rattle.heap_records.proofs.granted.records.Goals as goal
 
-pub loop-i-init : goal.loop-i-init
-loop-i-init c = (refl, omega arith, omega arith, omega arith, omega arith, omega arith)
+pub loop-w-init : goal.loop-w-init
+loop-w-init c = passed-none c.args.order c.args.bytes (take c.args.count c.args.ledger.now)
 
 pub returns-then-not-record_ok : goal.returns-then-not-record_ok
 returns-then-not-record_ok c =
-    let a = c.args in
-    let bad = sym c.record_ok.ensures ∙ c.if-not-record_ok.true in
-    record {
-      ok_is = sym (granted-step a.order a.bytes a.ledger.now a.count c.requires.1 c.loop-i.floor c.loop-i.i (omega arith) ∙ rw bad) ∙ c.loop-i.invariant.0;
-      user_is = λ e. absurd (false≢true e);
-      allocated_is = λ e. absurd (false≢true e);
-    }
+    let l = c.loop-w in
+    passed-wrong c.args.order c.args.bytes _ l.w-index l.floor l.user l.allocated l.invariant c.loop-w-test.true (sym c.record_ok.ensures ∙ c.if-not-record_ok.true)
 
-pub overflow_shl-size : goal.overflow_shl-size
-overflow_shl-size c =
-    let a = c.args in
-    let w = get_or a.ledger.now c.loop-i.i 0 in
-    let f = next-fact a.order a.bytes c.loop-i.floor w (sym c.record_ok.ensures ∙ c.if-not-record_ok.false) in
-    omega arith
-
-pub overflow_add-allocated : goal.overflow_add-allocated
-overflow_add-allocated c =
-    let a = c.args in
-    let w = get_or a.ledger.now c.loop-i.i 0 in
+pub loop-w-preserved : goal.loop-w-preserved
+loop-w-preserved c =
+    let l = c.loop-w in
+    let w = get_or (take c.args.count c.args.ledger.now) l.w-index 0 in
     let good = sym c.record_ok.ensures ∙ c.if-not-record_ok.false in
-    let f = next-fact a.order a.bytes c.loop-i.floor w good in
-    omega (arith, one_shl c.class_of-size.result (omega arith), ap (λ (n : ℕ). 2 ^ n) c.class_of-size.ensures, size_small (class_of w) (omega arith))
-
-pub overflow_add-floor : goal.overflow_add-floor
-overflow_add-floor c =
-    let a = c.args in
-    let w = get_or a.ledger.now c.loop-i.i 0 in
-    let good = sym c.record_ok.ensures ∙ c.if-not-record_ok.false in
-    let f = next-fact a.order a.bytes c.loop-i.floor w good in
-    omega (arith, one_shl c.class_of-size.result (omega arith), ap (λ (n : ℕ). 2 ^ n) c.class_of-size.ensures, size_small (class_of w) (omega arith))
-
-pub loop-i-preserved : goal.loop-i-preserved
-loop-i-preserved c =
-    let a = c.args in
-    let w = get_or a.ledger.now c.loop-i.i 0 in
-    let good = sym c.record_ok.ensures ∙ c.if-not-record_ok.false in
-    let f = next-fact a.order a.bytes c.loop-i.floor w good in
+    let f = next-fact c.args.order c.args.bytes l.floor w good in
     let z : 1 * 2 ^ c.class_of-size.result % 2 ^ 64 ≡ 2 ^ class_of w = one_shl c.class_of-size.result (omega arith) ∙ ap (λ (n : ℕ). 2 ^ n) c.class_of-size.ensures in
-    let step = granted-step a.order a.bytes a.ledger.now a.count c.requires.1 c.loop-i.floor c.loop-i.i (omega arith) in (
-      rw (z, c.address_of.ensures) (rw good at (sym step) ∙ c.loop-i.invariant.0),
-      omega (arith, user-step a.order a.bytes a.ledger.now a.count c.requires.1 c.loop-i.i (omega arith)),
-      omega (arith, z, allocated-step a.order a.bytes a.ledger.now a.count c.requires.1 c.loop-i.i (omega arith)),
-      omega arith,
-      omega arith,
-      omega (arith, z, size_small (class_of w) (omega arith)),
-    )
+    rw (c.address_of.ensures, c.requested_of-user.ensures) (passed-on c.args.order c.args.bytes _ l.w-index l.floor l.user l.allocated l.invariant c.loop-w-test.true _ c.requires.0 good z)
 
 pub returns : goal.returns
 returns c =
-    let a = c.args in
-    record {
-      ok_is = sym (granted-end a.order a.bytes a.ledger.now a.count c.requires.1 c.loop-i.floor c.loop-i.i (omega arith)) ∙ c.loop-i.invariant.0;
-      user_is = λ e. omega (arith, user-end a.order a.bytes a.ledger.now a.count c.requires.1 c.loop-i.i (omega arith));
-      allocated_is = λ e. omega (arith, allocated-end a.order a.bytes a.ledger.now a.count c.requires.1 c.loop-i.i (omega arith));
-    }
+    let l = c.loop-w in
+    passed-all c.args.order c.args.bytes _ l.w-index l.floor l.user l.allocated l.invariant c.loop-w-test.false

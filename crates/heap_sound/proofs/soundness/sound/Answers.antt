@@ -3,69 +3,46 @@
 use mathlib.Core.Path.{◌≡◌, sym, ◌∙◌}
 use native.Mathlib.Omega.{arith}
 use lib.ListN.{length}
-use borrow.Author.Tests.{not-true, not-false}
-use Rattle.words.proofs.Tests.{no, clash}
-use Rattle.heap_blocks.proofs.Facts.{sound-fact}
-use Rattle.heap_sound.proofs.Together.{ranges-of, total-fits, tested, sound-cross}
+use Rattle.words.proofs.Tests.{clash}
+use Rattle.heap_lists.proofs.Tallies as tallies
+use Rattle.heap_records.proofs.Passing as passing
+use Rattle.heap_sound.proofs.Together.{ranges-of, total-fits, unsound, sound-cross}
 use borrow.Author.Rules.{rules}
 use Rattle.heap_sound.proofs.soundness.sound.Goals as goal
 
 pub returns-then-not-ranges_ok : goal.returns-then-not-ranges_ok
-returns-then-not-ranges_ok c =
-    let h = c.args.h in
-    let m = c.args.arena.now in
-    let w = c.args.ledger.now in
-    sym (no _ (λ e. let t = tested h m w (sound-fact h m w e) in clash t.0.ranges (sym c.ranges_ok.ensures ∙ c.if-not-ranges_ok.true)))
+returns-then-not-ranges_ok c = unsound c.args.h c.args.arena.now c.args.ledger.now (λ t. clash t.ranges (sym c.ranges_ok.ensures ∙ c.if-not-ranges_ok.true))
 
-pub free_lists-free-requires : goal.free_lists-free-requires
-free_lists-free-requires c =
+pub free_lists-requires : goal.free_lists-requires
+free_lists-requires c =
     let a = c.args in
     let q = ranges-of a.h a.arena.now a.ledger.now (sym c.ranges_ok.ensures ∙ c.if-not-ranges_ok.false) in
     let l : length a.h.heads ≡ 33 = search rules in
     (l, q.order-high, q.arena-low, q.arena-high)
 
-pub returns-then-not-free : goal.returns-then-not-free
-returns-then-not-free c =
-    let h = c.args.h in
-    let m = c.args.arena.now in
-    let w = c.args.ledger.now in
-    sym (no _ (λ e. let t = tested h m w (sound-fact h m w e) in clash t.0.free (sym c.free_lists-free.ensures.ok_is ∙ not-true _ c.if-not-free.true)))
+pub returns-in_default : goal.returns-in_default
+returns-in_default c = unsound c.args.h c.args.arena.now c.args.ledger.now (λ t. c.in_default.not-Some _ (rw t.free at c.free_lists.ensures))
 
-pub records-granted-requires : goal.records-granted-requires
-records-granted-requires c =
-    let h = c.args.h in
-    let m = c.args.arena.now in
-    let w = c.args.ledger.now in
-    let q = ranges-of h m w (sym c.ranges_ok.ensures ∙ c.if-not-ranges_ok.false) in
+pub records-requires : goal.records-requires
+records-requires c =
+    let q = ranges-of c.args.h c.args.arena.now c.args.ledger.now (sym c.ranges_ok.ensures ∙ c.if-not-ranges_ok.false) in
     (q.order-high, q.room, q.ledger-high)
 
-pub returns-then-not-granted : goal.returns-then-not-granted
-returns-then-not-granted c =
-    let h = c.args.h in
-    let m = c.args.arena.now in
-    let w = c.args.ledger.now in
-    sym (no _ (λ e. let t = tested h m w (sound-fact h m w e) in clash t.0.granted (sym c.records-granted.ensures.ok_is ∙ not-true _ c.if-not-granted.true)))
+pub returns-in_default-records : goal.returns-in_default-records
+returns-in_default-records c = unsound c.args.h c.args.arena.now c.args.ledger.now (λ t. c.in_default-records.not-Some _ (rw t.granted at c.records.ensures))
 
 pub returns-then-not-zeros_from : goal.returns-then-not-zeros_from
-returns-then-not-zeros_from c =
-    let h = c.args.h in
-    let m = c.args.arena.now in
-    let w = c.args.ledger.now in
-    sym (no _ (λ e. let t = tested h m w (sound-fact h m w e) in clash t.0.zeros (sym c.zeros_from.ensures ∙ c.if-not-zeros_from.true)))
+returns-then-not-zeros_from c = unsound c.args.h c.args.arena.now c.args.ledger.now (λ t. clash t.zeros (sym c.zeros_from.ensures ∙ c.if-not-zeros_from.true))
 
 pub returns-then-h-granted : goal.returns-then-h-granted
 returns-then-h-granted c =
-    let h = c.args.h in
-    let m = c.args.arena.now in
-    let w = c.args.ledger.now in
-    sym (no _ (λ e. let t = tested h m w (sound-fact h m w e) in c.if-h-granted.true (t.0.user ∙ sym (c.records-granted.ensures.user_is (not-false _ c.if-not-granted.false)))))
+    let g = passing.told-some _ _ _ c.in-Some-records.ensures in
+    unsound c.args.h c.args.arena.now c.args.ledger.now (λ t. c.if-h-granted.true (t.user ∙ sym g.users))
 
 pub returns-then-h-granted-2 : goal.returns-then-h-granted-2
 returns-then-h-granted-2 c =
-    let h = c.args.h in
-    let m = c.args.arena.now in
-    let w = c.args.ledger.now in
-    sym (no _ (λ e. let t = tested h m w (sound-fact h m w e) in c.if-h-granted-2.true (t.0.allocated ∙ sym (c.records-granted.ensures.allocated_is (not-false _ c.if-not-granted.false)))))
+    let g = passing.told-some _ _ _ c.in-Some-records.ensures in
+    unsound c.args.h c.args.arena.now c.args.ledger.now (λ t. c.if-h-granted-2.true (t.allocated ∙ sym g.sizes))
 
 pub overflow_add-granted : goal.overflow_add-granted
 overflow_add-granted c =
@@ -73,42 +50,33 @@ overflow_add-granted c =
     let m = c.args.arena.now in
     let w = c.args.ledger.now in
     let q = ranges-of h m w (sym c.ranges_ok.ensures ∙ c.if-not-ranges_ok.false) in
-    omega (arith, c.records-granted.ensures.allocated_is (not-false _ c.if-not-granted.false), c.free_lists-free.ensures.bytes_are (not-false _ c.if-not-free.false), total-fits h m w q (sym c.records-granted.ensures.ok_is ∙ not-false _ c.if-not-granted.false))
+    let g = passing.told-some _ _ _ c.in-Some-records.ensures in
+    omega (arith, g.sizes, (tallies.told-some _ _ _ c.in-Some.ensures).1, total-fits h m w q g.all)
 
 pub returns-then-h-granted-3 : goal.returns-then-h-granted-3
 returns-then-h-granted-3 c =
-    let h = c.args.h in
-    let m = c.args.arena.now in
-    let w = c.args.ledger.now in
-    sym
-    (no _
-    (λ e.
-    let t = tested h m w (sound-fact h m w e) in
-    c.if-h-granted-3.true (omega (arith, t.0.total, c.records-granted.ensures.allocated_is (not-false _ c.if-not-granted.false), c.free_lists-free.ensures.bytes_are (not-false _ c.if-not-free.false)))))
+    let g = passing.told-some _ _ _ c.in-Some-records.ensures in
+    let f = tallies.told-some _ _ _ c.in-Some.ensures in
+    unsound c.args.h c.args.arena.now c.args.ledger.now (λ t. c.if-h-granted-3.true (omega (arith, t.total, g.sizes, f.1)))
 
 pub free_apart-requires : goal.free_apart-requires
-free_apart-requires c =
-    let h = c.args.h in
-    let m = c.args.arena.now in
-    let w = c.args.ledger.now in
-    (ranges-of h m w (sym c.ranges_ok.ensures ∙ c.if-not-ranges_ok.false)).room
+free_apart-requires c = (ranges-of c.args.h c.args.arena.now c.args.ledger.now (sym c.ranges_ok.ensures ∙ c.if-not-ranges_ok.false)).room
 
 pub returns : goal.returns
 returns c =
     let h = c.args.h in
     let m = c.args.arena.now in
     let w = c.args.ledger.now in
-    let user = c.records-granted.ensures.user_is (not-false _ c.if-not-granted.false) in
-    let allocated = c.records-granted.ensures.allocated_is (not-false _ c.if-not-granted.false) in
-    let bytes = c.free_lists-free.ensures.bytes_are (not-false _ c.if-not-free.false) in
+    let g = passing.told-some _ _ _ c.in-Some-records.ensures in
+    let f = tallies.told-some _ _ _ c.in-Some.ensures in
     c.free_apart.ensures
     ∙ sound-cross h m w
     (record {
       ranges = sym c.ranges_ok.ensures ∙ c.if-not-ranges_ok.false;
-      free = sym c.free_lists-free.ensures.ok_is ∙ not-false _ c.if-not-free.false;
-      granted = sym c.records-granted.ensures.ok_is ∙ not-false _ c.if-not-granted.false;
+      free = f.0;
+      granted = g.all;
       zeros = sym c.zeros_from.ensures ∙ c.if-not-zeros_from.false;
-      user = c.if-h-granted.false ∙ user;
-      allocated = c.if-h-granted-2.false ∙ allocated;
-      total = omega (arith, c.if-h-granted-3.false);
+      user = c.if-h-granted.false ∙ g.users;
+      allocated = c.if-h-granted-2.false ∙ g.sizes;
+      total = omega (arith, c.if-h-granted-3.false, g.sizes, f.1);
     })

@@ -1,7 +1,7 @@
 -- `linked_list::front::pop` meets its contract. Assumes nothing.
 use mathlib.Core.Path.{sym, ap, ◌∙◌}
 use Prim.Native.Nat.{ℕ}
-use Rattle.linked_list.specs.declared.Popped.TheVariants.{Block}
+use Rattle.std.specs.Prelude.{Some}
 use Rattle.linked_list.proofs.Steps.{pop-nothing, pop-block}
 use borrow.Author.Tests.{eqb-false}
 use Rattle.linked_list.proofs.front.pop.Goals as goal
@@ -14,5 +14,5 @@ returns-then-is_empty c =
 pub returns : goal.returns
 returns c =
     let s = c.args in
-    ap (λ (after : ℕ). Block (record { block = s.head; head = after })) c.next-after.ensures
+    ap (λ (after : ℕ). Some (record { block = s.head; head = after })) c.next-after.ensures
     ∙ sym (pop-block s.head s.arena.now (eqb-false s.head 0 (sym c.is_empty.ensures ∙ c.if-is_empty.false)))
