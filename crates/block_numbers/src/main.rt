@@ -2,48 +2,20 @@
 
 #![tactic(auto)]
 
-ghost use Rattle.std.specs.Prelude.{◌≤◌};
-
 use std::io;
 use std::io::Read;
 
-// The number being read: whether it has a digit yet, and whether it is still below 2^64.
+// A number that is not below 2^64.
 #[derive(Clone, Copy)]
-struct Reading {
-    value: u64,
-    begun: bool,
-    fits: bool,
-}
+struct TooLarge;
 
-fn with_digit(r: Reading, digit: u64) -> Reading
-    requires { digit ≤ 9 }
-{
-    let value = r.value;
-    if r.fits {
-        if value <= (18446744073709551615 - digit) / 10 {
-            return Reading {
-                value: value * 10 + digit,
-                begun: true,
-                fits: true,
-            };
-        }
-    }
-    Reading {
-        value: 0,
-        begun: true,
-        fits: false,
-    }
-}
+// The number being read, once it has a digit.
+type Reading = Option<Result<u64, TooLarge>>;
 
-// 0 to 9 for a digit, and 10 for any other byte.
-fn digit_of(byte: u8) -> u64 {
-    if byte < b'0' {
-        return 10;
-    }
-    if b'9' < byte {
-        return 10;
-    }
-    (byte - b'0') as u64
+fn with_digit(reading: Reading, digit: u64) -> Result<u64, TooLarge> {
+    let value = reading.unwrap_or(Ok(0))?;
+    let tens = value.checked_mul(10).ok_or(TooLarge)?;
+    tens.checked_add(digit).ok_or(TooLarge)
 }
 
 fn put(rt: &impl Print, text: &[u8]) -> io::Result<()> {
@@ -81,80 +53,46 @@ fn put_line(rt: &impl Print, n: u64) -> io::Result<()> {
     put(rt, b"\n")
 }
 
-fn end(rt: &impl Print, r: Reading) -> io::Result<()> {
-    if r.begun {
-        if r.fits {
-            put_line(rt, r.value)?;
-        } else {
-            put(rt, b"not below 2^64\n")?;
-        }
+fn end(rt: &impl Print, reading: Reading) -> io::Result<()> {
+    match reading {
+        Some(Ok(n)) => put_line(rt, n),
+        Some(Err(TooLarge)) => put(rt, b"not below 2^64\n"),
+        None => Ok(()),
     }
-    Ok(())
 }
 
 // Takes one byte: a digit goes on with the number, and any other byte ends it.
-fn take(rt: &impl Print, r: Reading, byte: u8) -> io::Result<Reading> {
-    let digit = digit_of(byte);
-    if digit <= 9 {
-        Ok(with_digit(r, digit))
-    } else {
-        end(rt, r)?;
-        Ok(Reading {
-            value: 0,
-            begun: false,
-            fits: true,
-        })
+fn take(rt: &impl Print, reading: Reading, byte: u8) -> io::Result<Reading> {
+    let Some(digit) = char::from(byte).to_digit(10) else {
+        end(rt, reading)?;
+        return Ok(None);
+    };
+    Ok(Some(with_digit(reading, u64::from(digit))))
+}
+
+fn take_all(rt: &impl Print, begun: Reading, bytes: &[u8]) -> io::Result<Reading> {
+    let mut reading = begun;
+    for byte in bytes {
+        reading = take(rt, reading, *byte)?;
     }
+    Ok(reading)
 }
 
-fn take_all(rt: &impl Print, start: Reading, bytes: &[u8]) -> io::Result<Reading> {
-    let mut r = start;
-    let mut i = 0;
-    while i < bytes.len() {
-        r = take(rt, r, bytes[i])?;
-        i += 1;
-    }
-    Ok(r)
-}
-
-// What one read gave: the number so far, and whether the input may go on.
-#[derive(Clone, Copy)]
-struct Step {
-    reading: Reading,
-    more: bool,
-}
-
-fn read_some(input: &mut impl Read, rt: &impl Print, r: Reading) -> io::Result<Step> {
-    let mut buffer = [0u8; 4096];
-    let n = input.read(&mut buffer)?;
-    let reading = take_all(rt, r, &buffer[..n])?;
-    Ok(Step {
-        reading,
-        more: n > 0,
-    })
-}
-
-// A proved loop has to end, and nothing says that an input does: the loop counts down from a number that no run uses up.
+// A proved loop has to end, and nothing says that an input does: the loop goes up to a number of turns that no run uses up.
 fn main(rt: HostRuntime) -> io::Result<()> {
     put(
         &rt,
         b"number: size class aligned-to-4096 previous-power lowest-bit power-of-two buddy-in-class-12 piece-of-1000000-up-to-class-20\n",
     )?;
     let mut input = rt.stdin();
-    let mut step = Step {
-        reading: Reading {
-            value: 0,
-            begun: false,
-            fits: true,
-        },
-        more: true,
-    };
-    let mut turns = u64::MAX;
-    while turns > 0 && step.more {
-        let r = step.reading;
-        step = read_some(&mut input, &rt, r)?;
-        turns -= 1;
+    let mut buffer = [0u8; 4096];
+    let mut reading = None;
+    for _ in 0..u64::MAX {
+        let n = input.read(&mut buffer)?;
+        if n == 0 {
+            break;
+        }
+        reading = take_all(&rt, reading, &buffer[..n])?;
     }
-    let last = step.reading;
-    end(&rt, last)
+    end(&rt, reading)
 }

@@ -1,41 +1,41 @@
 // The lines that `calls` prints.
-ghost use Rattle.texts.specs.Put.{Put};
+ghost use Rattle.texts.specs.Output.{Puts};
 ghost use Rattle.frame_lines.specs.Text.{reply_text, heading_text, record_text};
 
-use texts::{put, put_number, put_with};
+use texts::Output;
 
 // The line of a reply: `no` and the number of a refusal, the value of an accepted call that answers one, or `ok`.
-pub fn put_reply(number: u64, value: u64, valued: bool, out: &mut [u8], at: usize) -> usize
-    ensures { Put (reply_text number value valued) out.old at result out.new }
+pub fn put_reply(number: u64, value: u64, valued: bool, out: &mut Output)
+    ensures { Puts (reply_text number value valued) out.old out.new }
 {
     if number != 0 {
-        let after = put_with(b"no ", number, out, at);
-        return put(b"\n", out, after);
+        out.put_with(b"no ", number);
+        return out.put(b"\n");
     }
     if valued {
-        let after = put_number(value, out, at);
-        return put(b"\n", out, after);
+        out.put_number(value);
+        return out.put(b"\n");
     }
-    put(b"ok\n", out, at)
+    out.put(b"ok\n");
 }
 
 // The heading of a table.
-pub fn put_heading(order: u64, records: u64, out: &mut [u8], at: usize) -> usize
-    ensures { Put (heading_text order records) out.old at result out.new }
+pub fn put_heading(order: u64, records: u64, out: &mut Output)
+    ensures { Puts (heading_text order records) out.old out.new }
 {
-    let first = put_with(b"order ", order, out, at);
-    let second = put_with(b" records ", records, out, first);
-    put(b"\n", out, second)
+    out.put_with(b"order ", order);
+    out.put_with(b" records ", records);
+    out.put(b"\n");
 }
 
 // The line of a record.
-pub fn put_record(start: u64, class: u64, granted: bool, out: &mut [u8], at: usize) -> usize
-    ensures { Put (record_text start class granted) out.old at result out.new }
+pub fn put_record(start: u64, class: u64, granted: bool, out: &mut Output)
+    ensures { Puts (record_text start class granted) out.old out.new }
 {
-    let first = put_number(start, out, at);
-    let second = put_with(b" ", class, out, first);
+    out.put_number(start);
+    out.put_with(b" ", class);
     if granted {
-        return put(b" granted\n", out, second);
+        return out.put(b" granted\n");
     }
-    put(b" free\n", out, second)
+    out.put(b" free\n");
 }

@@ -4,39 +4,36 @@
 
 mod reading;
 
-use heap_runs::Lent;
+ghost use Rattle.std.specs.Prelude.{◌≤◌};
+
+use heap_runs::Machine;
 use std::io;
+use texts::Output;
 
-// How many bytes of the line at hand are held, and how many of the output wait to be written.
-#[derive(Clone, Copy)]
-struct Place {
-    held: usize,
-    out: usize,
-}
-
-// What one read gave: the places and what is lent afterwards, and whether the input may go on.
-#[derive(Clone, Copy)]
-struct Step {
-    place: Place,
-    lent: Lent,
-    more: bool,
+// The line at hand, of which no more than its first 81 bytes are held.
+#[derive(Drop)]
+struct Held {
+    bytes: [u8; 81],
+    len: usize,
+    ghost in_bounds: { len ≤ 81 },
 }
 
 fn main(rt: HostRuntime) -> io::Result<()> {
-    let mut arena = [0u64; 4096];
-    let mut ledger = [0u64; 512];
-    let mut held = [0u8; 81];
-    let mut out = [0u8; 4096];
+    let mut machine = Machine {
+        lent: reading::nothing_lent(),
+        arena: [0; 4096],
+        ledger: [0; 512],
+    };
+    let mut held = Held {
+        bytes: [0; 81],
+        len: 0,
+    };
+    let mut buffer = [0u8; 4096];
+    let mut out = Output {
+        bytes: &mut buffer,
+        at: 0,
+    };
     let mut input = rt.stdin();
-    let step = reading::read_all(
-        &mut input,
-        &rt,
-        &mut held,
-        &mut arena,
-        &mut ledger,
-        &mut out,
-    )?;
-    let lent = step.lent;
-    let place = step.place;
-    reading::finish(&rt, &held, lent, &mut arena, &mut ledger, &mut out, place)
+    reading::read_all(&mut input, &rt, &mut held, &mut machine, &mut out)?;
+    reading::finish(&rt, &held, &mut machine, &mut out)
 }

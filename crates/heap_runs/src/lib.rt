@@ -7,9 +7,10 @@ mod running;
 mod setting;
 mod walking;
 
+ghost use Rattle.std.specs.Prelude.{◌≤◌};
+
 use answers::Answer;
 use heap_state::Heap;
-pub use running::run;
 
 // The heap record, and how many words of the arena and of the ledger are lent.
 #[derive(Clone, Copy)]
@@ -17,6 +18,16 @@ pub struct Lent {
     pub heap: Heap,
     pub words: usize,
     pub records: usize,
+}
+
+// All that the program holds. What is lent are the first words of the arena and of the ledger.
+#[derive(Drop)]
+pub struct Machine {
+    pub lent: Lent,
+    pub arena: [u64; 4096],
+    pub ledger: [u64; 512],
+    pub ghost words_fit: { lent.words ≤ 4096 },
+    pub ghost records_fit: { lent.records ≤ 512 },
 }
 
 // What a line prints: a reply, the three figures, the nodes of a list by its head and their count, that something was set, or that it is no call.
@@ -27,11 +38,4 @@ pub enum Printed {
     Nodes(u64, usize),
     Set,
     BadLine,
-}
-
-// What a command leaves and prints.
-#[derive(Clone, Copy)]
-pub struct Ran {
-    pub lent: Lent,
-    pub line: Printed,
 }

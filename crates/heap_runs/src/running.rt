@@ -1,75 +1,17 @@
 // A command run on the heap that is lent.
-ghost use Rattle.std.specs.Prelude.{◌≡◌};
-ghost use Rattle.heap_state.specs.State.{state};
+ghost use Rattle.std.specs.Prelude.{◌≡◌, ◌≤◌, ◌++◌, length, take, drop, replicate};
+ghost use Rattle.heap_state.specs.State.{state, Says, making};
 ghost use Rattle.heap.specs.Told.{Told};
-ghost use Rattle.heap_runs.specs.Run.{machine, call_of, Fits};
-ghost use Rattle.heap_runs.specs.Running.{Does, replied_with, Figured};
+ghost use Rattle.heap_runs.specs.Run.{call_of};
+ghost use Rattle.heap_runs.specs.Running.{machine_of, Does, Figured};
 
-use crate::setting::{bad_line, set};
-use crate::walking::list;
-use crate::{Lent, Printed, Ran};
+use crate::{Lent, Machine, Printed};
 use heap_lines::{Call, Command};
 use heap_state::{Heap, Reply};
 
 const ARENA_WORDS: u64 = 4096;
 
 const LEDGER_WORDS: u64 = 512;
-
-fn replied(reply: Reply, words: usize, records: usize) -> Ran
-    ensures { result ≡ replied_with reply words records }
-{
-    let heap = reply.heap;
-    let answer = reply.answer;
-    Ran {
-        lent: Lent {
-            heap: heap,
-            words: words,
-            records: records,
-        },
-        line: Printed::Reply(answer),
-    }
-}
-
-// Makes a heap over the first words of both; the words are cleared only once it is made, so that nothing is lost where it is refused.
-fn make(
-    order: u64,
-    words: u64,
-    records: u64,
-    lent: Lent,
-    arena: &mut [u64],
-    ledger: &mut [u64],
-) -> Ran
-    requires { Fits lent arena.old ledger.old }
-    ensures does { Does (Command.Make order words records) (machine lent arena.old ledger.old) result arena.new ledger.new }
-    ensures fits { Fits result.lent arena.new ledger.new }
-{
-    if words > ARENA_WORDS {
-        return bad_line(lent);
-    }
-    if records > LEDGER_WORDS {
-        return bad_line(lent);
-    }
-    let n = words as usize;
-    let k = records as usize;
-    let reply = Heap::new(order, &arena[..n], &mut ledger[..k]);
-    let answer = reply.answer;
-    if answers::number(answer) != 0 {
-        return replied(reply, lent.words, lent.records);
-    }
-    words::clear(&mut arena[..n]);
-    replied(reply, n, k)
-}
-
-fn remake(order: u64, lent: Lent, arena: &[u64], ledger: &mut [u64]) -> Ran
-    requires { Fits lent arena.now ledger.old }
-    ensures does { Does (Command.Remake order) (machine lent arena.now ledger.old) result arena.now ledger.new }
-    ensures fits { Fits result.lent arena.now ledger.new }
-{
-    let n = lent.words;
-    let k = lent.records;
-    let reply = Heap::new(order, &arena[..n], &mut ledger[..k]);
-    replied(reply, n, k)
-}
 
 // A call on the words that are lent.
 fn called(call: Call, heap: Heap, arena: &mut [u64], ledger: &mut [u64]) -> Reply
@@ -84,16 +26,32 @@ fn called(call: Call, heap: Heap, arena: &mut [u64], ledger: &mut [u64]) -> Repl
     }
 }
 
-fn call(call: Call, lent: Lent, arena: &mut [u64], ledger: &mut [u64]) -> Ran
-    requires { Fits lent arena.old ledger.old }
-    ensures does { Does (Command.Call call) (machine lent arena.old ledger.old) result arena.new ledger.new }
-    ensures fits { Fits result.lent arena.new ledger.new }
+// The same on the first words of both, which are lent.
+fn call_on(call: Call, lent: Lent, arena: &mut [u64], ledger: &mut [u64]) -> Reply
+    requires { (lent.words ≤ length arena.old) × (lent.records ≤ length ledger.old) }
+    ensures told { Told (call_of call) (state lent.heap (take lent.words arena.old) (take lent.records ledger.old)) result (take lent.words arena.new) (take lent.records ledger.new) }
+    ensures arena_rest { drop lent.words arena.new ≡ drop lent.words arena.old }
+    ensures ledger_rest { drop lent.records ledger.new ≡ drop lent.records ledger.old }
 {
     let n = lent.words;
     let k = lent.records;
-    let heap = lent.heap;
-    let reply = called(call, heap, &mut arena[..n], &mut ledger[..k]);
-    replied(reply, n, k)
+    called(call, lent.heap, &mut arena[..n], &mut ledger[..k])
+}
+
+// Makes a heap over the first words of both.
+fn make_over(order: u64, n: usize, k: usize, arena: &[u64], ledger: &mut [u64]) -> Reply
+    requires { (n ≤ length arena.now) × (k ≤ length ledger.old) }
+    ensures says { Says (making order (take n arena.now) (take k ledger.old)) result (take n arena.now) (take k ledger.new) }
+    ensures rest { drop k ledger.new ≡ drop k ledger.old }
+{
+    Heap::new(order, &arena[..n], &mut ledger[..k])
+}
+
+fn clear_first(n: usize, arena: &mut [u64])
+    requires { n ≤ length arena.old }
+    ensures { arena.new ≡ replicate n 0 ++ drop n arena.old }
+{
+    words::clear(&mut arena[..n]);
 }
 
 fn figures(heap: Heap, arena: &[u64], ledger: &[u64]) -> Printed
@@ -105,33 +63,70 @@ fn figures(heap: Heap, arena: &[u64], ledger: &[u64]) -> Printed
     Printed::Figures(user, allocated, total)
 }
 
-fn stats(lent: Lent, arena: &[u64], ledger: &[u64]) -> Ran
-    requires { Fits lent arena.now ledger.now }
-    ensures does { Does (Command.Stats) (machine lent arena.now ledger.now) result arena.now ledger.now }
-    ensures fits { Fits result.lent arena.now ledger.now }
-{
-    let n = lent.words;
-    let k = lent.records;
-    let heap = lent.heap;
-    let line = figures(heap, &arena[..n], &ledger[..k]);
-    Ran {
-        lent: lent,
-        line: line,
+impl Machine {
+    // Runs a command, and tells what is to be printed.
+    pub fn run(&mut self, command: Command) -> Printed
+        ensures { Does command (machine_of self.old) (machine_of self.new) result }
+    {
+        match command {
+            Command::Make(order, words, records) => self.make(order, words, records),
+            Command::Remake(order) => self.remake(order),
+            Command::Call(on) => self.call(on),
+            Command::List(class) => self.list(class),
+            Command::Stats => self.stats(),
+            Command::Set(cell, value) => self.set(cell, value),
+            Command::Bad => Printed::BadLine,
+        }
     }
-}
 
-pub fn run(command: Command, lent: Lent, arena: &mut [u64], ledger: &mut [u64]) -> Ran
-    requires { Fits lent arena.old ledger.old }
-    ensures does { Does (command) (machine lent arena.old ledger.old) result arena.new ledger.new }
-    ensures fits { Fits result.lent arena.new ledger.new }
-{
-    match command {
-        Command::Make(order, words, records) => make(order, words, records, lent, arena, ledger),
-        Command::Remake(order) => remake(order, lent, arena, ledger),
-        Command::Call(on) => call(on, lent, arena, ledger),
-        Command::List(class) => list(class, lent, arena, ledger),
-        Command::Stats => stats(lent, arena, ledger),
-        Command::Set(cell, value) => set(cell, value, lent, arena, ledger),
-        Command::Bad => bad_line(lent),
+    // Makes a heap over the first words of both; the words are cleared only once it is made, so that nothing is lost where it is refused.
+    fn make(&mut self, order: u64, words: u64, records: u64) -> Printed
+        ensures { Does (Command.Make order words records) (machine_of self.old) (machine_of self.new) result }
+    {
+        if words > ARENA_WORDS {
+            return Printed::BadLine;
+        }
+        if records > LEDGER_WORDS {
+            return Printed::BadLine;
+        }
+        let n = words as usize;
+        let k = records as usize;
+        let reply = make_over(order, n, k, &self.arena, &mut self.ledger);
+        self.lent.heap = reply.heap;
+        let answer = reply.answer;
+        if answers::number(answer) != 0 {
+            return Printed::Reply(answer);
+        }
+        clear_first(n, &mut self.arena);
+        self.lent.words = n;
+        self.lent.records = k;
+        Printed::Reply(answer)
+    }
+
+    fn remake(&mut self, order: u64) -> Printed
+        ensures { Does (Command.Remake order) (machine_of self.old) (machine_of self.new) result }
+    {
+        let n = self.lent.words;
+        let k = self.lent.records;
+        let reply = make_over(order, n, k, &self.arena, &mut self.ledger);
+        self.lent.heap = reply.heap;
+        Printed::Reply(reply.answer)
+    }
+
+    fn call(&mut self, call: Call) -> Printed
+        ensures { Does (Command.Call call) (machine_of self.old) (machine_of self.new) result }
+    {
+        let lent = self.lent;
+        let reply = call_on(call, lent, &mut self.arena, &mut self.ledger);
+        self.lent.heap = reply.heap;
+        Printed::Reply(reply.answer)
+    }
+
+    fn stats(&self) -> Printed
+        ensures { Does (Command.Stats) (machine_of self.now) (machine_of self.now) result }
+    {
+        let n = self.lent.words;
+        let k = self.lent.records;
+        figures(self.lent.heap, &self.arena[..n], &self.ledger[..k])
     }
 }

@@ -1,43 +1,21 @@
 // Words and fields put past every rule.
 ghost use Rattle.std.specs.Prelude.{cond, ◌≡◌, ◌≤◌, ltb, length, set};
-ghost use Rattle.heap_runs.specs.Run.{machine, with_heap, heap_with, Fits};
-ghost use Rattle.heap_runs.specs.Running.{Does, ran_with};
+ghost use Rattle.heap_runs.specs.Run.{heap_with};
+ghost use Rattle.heap_runs.specs.Running.{machine_of, Does};
 
-use crate::{Lent, Printed, Ran};
+use crate::{Machine, Printed};
 use heap_lines::{Cell, Command};
 use heap_state::Heap;
 
-pub(crate) fn bad_line(lent: Lent) -> Ran
-    ensures { result ≡ ran_with lent Printed.BadLine }
-{
-    Ran {
-        lent: lent,
-        line: Printed::BadLine,
-    }
-}
-
-fn with_heap(heap: Heap, lent: Lent) -> Ran
-    ensures { result ≡ ran_with (with_heap heap lent) Printed.Set }
-{
-    Ran {
-        lent: Lent {
-            heap: heap,
-            words: lent.words,
-            records: lent.records,
-        },
-        line: Printed::Set,
-    }
-}
-
-fn set_head(class: u64, address: u64, lent: Lent) -> Ran
-    ensures { result ≡ cond (ltb class 33) (ran_with (with_heap (heap_with (Cell.Head class) address lent.heap) lent) Printed.Set) (ran_with lent Printed.BadLine) }
+fn set_head(class: u64, address: u64, heap: &mut Heap) -> Printed
+    ensures value { result ≡ cond (ltb class 33) Printed.Set Printed.BadLine }
+    ensures heap_after { heap.new ≡ cond (ltb class 33) (heap_with (Cell.Head class) address heap.old) heap.old }
 {
     if class >= 33 {
-        return bad_line(lent);
+        return Printed::BadLine;
     }
-    let mut heap = lent.heap;
     heap.heads[class as usize] = address;
-    with_heap(heap, lent)
+    Printed::Set
 }
 
 fn set_word(at: u64, word: u64, most: usize, words: &mut [u64]) -> Printed
@@ -52,42 +30,27 @@ fn set_word(at: u64, word: u64, most: usize, words: &mut [u64]) -> Printed
     Printed::Set
 }
 
-// Puts what a line asks for, where it is within what is lent.
-pub(crate) fn set(cell: Cell, value: u64, lent: Lent, arena: &mut [u64], ledger: &mut [u64]) -> Ran
-    requires { Fits lent arena.old ledger.old }
-    ensures does { Does (Command.Set cell value) (machine lent arena.old ledger.old) result arena.new ledger.new }
-    ensures fits { Fits result.lent arena.new ledger.new }
-{
-    let mut heap = lent.heap;
-    match cell {
-        Cell::Arena(at) => Ran {
-            lent: lent,
-            line: set_word(at, value, lent.words, arena),
-        },
-        Cell::Ledger(at) => Ran {
-            lent: lent,
-            line: set_word(at, value, lent.records, ledger),
-        },
-        Cell::Head(class) => set_head(class, value, lent),
-        Cell::Count => {
-            heap.count = value;
-            with_heap(heap, lent)
+impl Machine {
+    // Puts what a line asks for, where it is within what is lent.
+    pub(crate) fn set(&mut self, cell: Cell, value: u64) -> Printed
+        ensures { Does (Command.Set cell value) (machine_of self.old) (machine_of self.new) result }
+    {
+        let lent = self.lent;
+        match cell {
+            Cell::Arena(at) => return set_word(at, value, lent.words, &mut self.arena),
+            Cell::Ledger(at) => return set_word(at, value, lent.records, &mut self.ledger),
+            Cell::Head(class) => {
+                let mut heap = lent.heap;
+                let line = set_head(class, value, &mut heap);
+                self.lent.heap = heap;
+                return line;
+            }
+            Cell::Count => self.lent.heap.count = value,
+            Cell::User => self.lent.heap.user = value,
+            Cell::Allocated => self.lent.heap.allocated = value,
+            Cell::Total => self.lent.heap.total = value,
+            Cell::Order => self.lent.heap.order = value,
         }
-        Cell::User => {
-            heap.user = value;
-            with_heap(heap, lent)
-        }
-        Cell::Allocated => {
-            heap.allocated = value;
-            with_heap(heap, lent)
-        }
-        Cell::Total => {
-            heap.total = value;
-            with_heap(heap, lent)
-        }
-        Cell::Order => {
-            heap.order = value;
-            with_heap(heap, lent)
-        }
+        Printed::Set
     }
 }

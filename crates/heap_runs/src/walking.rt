@@ -2,10 +2,9 @@
 ghost use Rattle.std.specs.Prelude.{◌≡◌, length};
 ghost use Rattle.heap_state.specs.State.{state};
 ghost use Rattle.linked_list.specs.Links.{nodes};
-ghost use Rattle.heap_runs.specs.Run.{machine, Fits};
-ghost use Rattle.heap_runs.specs.Running.{Does, Lists};
+ghost use Rattle.heap_runs.specs.Running.{machine_of, Does, Lists};
 
-use crate::{Lent, Printed, Ran};
+use crate::{Machine, Printed};
 use answers::Refusal;
 use heap_lines::Command;
 use heap_reader::{first, following};
@@ -15,16 +14,14 @@ fn count_nodes(head: u64, arena: &[u64]) -> usize
     ensures { result ≡ length (nodes (length arena.now) arena.now head) }
 {
     let mut at = head;
-    let mut count = 0;
-    while count < arena.len() {
+    for count in 0..arena.len() {
         let step = following(arena, at, 0);
         if step.node == 0 {
             return count;
         }
-        count += 1;
         at = step.at;
     }
-    count
+    arena.len()
 }
 
 fn nodes_of(class: u64, heap: Heap, arena: &[u64], ledger: &[u64]) -> Printed
@@ -37,17 +34,12 @@ fn nodes_of(class: u64, heap: Heap, arena: &[u64], ledger: &[u64]) -> Printed
     Printed::Nodes(start.node, count_nodes(start.node, arena))
 }
 
-pub(crate) fn list(class: u64, lent: Lent, arena: &[u64], ledger: &[u64]) -> Ran
-    requires { Fits lent arena.now ledger.now }
-    ensures does { Does (Command.List class) (machine lent arena.now ledger.now) result arena.now ledger.now }
-    ensures fits { Fits result.lent arena.now ledger.now }
-{
-    let n = lent.words;
-    let k = lent.records;
-    let heap = lent.heap;
-    let line = nodes_of(class, heap, &arena[..n], &ledger[..k]);
-    Ran {
-        lent: lent,
-        line: line,
+impl Machine {
+    pub(crate) fn list(&self, class: u64) -> Printed
+        ensures { Does (Command.List class) (machine_of self.now) (machine_of self.now) result }
+    {
+        let n = self.lent.words;
+        let k = self.lent.records;
+        nodes_of(class, self.lent.heap, &self.arena[..n], &self.ledger[..k])
     }
 }

@@ -6,7 +6,9 @@ use Prim.Native.Nat.{ℕ, ◌+◌, ◌≤◌}
 use native.Mathlib.Omega.{arith}
 use lib.ListN.{length}
 use Rattle.answers.specs.Paper.{paper}
-use Rattle.texts.specs.Put.{Put, Shown}
+use Rattle.texts.specs.Put.{Shown}
+use Rattle.texts.specs.Output.{Puts}
+use Rattle.texts.specs.declared.waiting.Output.{Output}
 use Rattle.texts.specs.Text.{decimal, line_feed}
 use Rattle.texts.proofs.Lengths.{length-decimal, both}
 use Rattle.heap_runs.specs.declared.Printed.{Printed}
@@ -37,7 +39,11 @@ short arena (Nodes head count) e = let z : ◌≡◌ {A = Bool} true false = e i
 short arena Set e = omega arith
 short arena BadLine e = omega arith
 
-pub shown : (arena : List ℕ) (p : Printed) (text buffer left : List ℕ) (from end : ℕ) → by_node p ≡ false → line_of arena p ≡ text → from + 160 ≤ length buffer
-    → Put (line_of arena p) buffer from end left → Shown text buffer end left
-shown arena p text buffer left from end b e room q =
-    record { from = from; put = subst (λ (t : List ℕ). Put t buffer from end left) e q; whole = omega (arith, q.place, short arena p b, ap length e) }
+pub shown : (arena : List ℕ) (p : Printed) (text : List ℕ) (before after : Output) (buffer : List ℕ) → by_node p ≡ false → before.bytes.now ≡ buffer → line_of arena p ≡ text
+    → before.at + 160 ≤ length before.bytes.now → Puts (line_of arena p) before after → Shown text buffer after.at after.bytes.now
+shown arena p text before after buffer b same e room q =
+    record {
+      from = before.at;
+      put = rw (← same, ← e) q.put;
+      whole = omega (arith, q.put.place, short arena p b, ap length e);
+    }

@@ -1,33 +1,33 @@
 // What a line prints.
-ghost use Rattle.std.specs.Prelude.{false, ◌≡◌, ◌≤◌, length, IfOk, OnErr, IsOkAnd};
+ghost use Rattle.std.specs.Prelude.{false, ◌≡◌, IsOk};
 ghost use Rattle.answers.specs.Paper.{paper};
-ghost use Rattle.texts.specs.Put.{Put};
+ghost use Rattle.texts.specs.Output.{Puts, Ready, StillReady};
 ghost use Rattle.heap_runs.specs.Text.{reply_text, figures_text, line_of, by_node};
 
 use answers::Answer;
 use heap_reader::following;
 use heap_runs::Printed;
 use std::io;
-use texts::{put, put_number, put_with, room};
+use texts::Output;
 
 // The line of a reply: its number and its value.
-fn put_reply(answer: Answer, out: &mut [u8], at: usize) -> usize
-    ensures { Put (reply_text (paper answer).number (paper answer).value) out.old at result out.new }
+fn put_reply(answer: Answer, out: &mut Output)
+    ensures { Puts (reply_text (paper answer).number (paper answer).value) out.old out.new }
 {
-    let first = put_number(answers::number(answer), out, at);
-    let second = put_with(b" ", answers::value(answer), out, first);
-    put(b"\n", out, second)
+    out.put_number(answers::number(answer));
+    out.put_with(b" ", answers::value(answer));
+    out.put(b"\n");
 }
 
 // The line of the three figures.
-fn put_figures(user: Answer, allocated: Answer, total: Answer, out: &mut [u8], at: usize) -> usize
-    ensures { Put (figures_text (paper user).number (paper user).value (paper allocated).value (paper total).value) out.old at result out.new }
+fn put_figures(user: Answer, allocated: Answer, total: Answer, out: &mut Output)
+    ensures { Puts (figures_text (paper user).number (paper user).value (paper allocated).value (paper total).value) out.old out.new }
 {
-    let first = put_number(answers::number(user), out, at);
-    let second = put_with(b" ", answers::value(user), out, first);
-    let third = put_with(b" ", answers::value(allocated), out, second);
-    let fourth = put_with(b" ", answers::value(total), out, third);
-    put(b"\n", out, fourth)
+    out.put_number(answers::number(user));
+    out.put_with(b" ", answers::value(user));
+    out.put_with(b" ", answers::value(allocated));
+    out.put_with(b" ", answers::value(total));
+    out.put(b"\n");
 }
 
 // The nodes of a list, at most so many, with room made for each.
@@ -36,25 +36,23 @@ pub fn put_nodes(
     head: u64,
     most: usize,
     arena: &[u64],
-    out: &mut [u8],
-    at: usize,
-) -> io::Result<usize>
-    requires at_in_bounds { at ≤ length out.old }
-    requires in_bounds { 160 ≤ length out.old }
-    ensures upper_bound { IfOk result (λ after. after ≤ length out.new) }
-    ensures room_left { OnErr result (length out.new ≡ length out.old) }
+    out: &mut Output,
+) -> io::Result<()>
+    requires { Ready out.old }
+    ensures { StillReady out.old out.new }
 {
     let mut step = following(arena, head, 0);
     let mut left = most;
-    let mut to = at;
+    // Kept: it walks a list, and a walk that never ends is refused at its measure.
     while left > 0 && step.node != 0 {
-        let free = room(rt, out, to)?;
-        to = put_with(b" ", step.node, out, free);
+        out.room(rt)?;
+        out.put_with(b" ", step.node);
         step = following(arena, step.at, step.number);
         left -= 1;
     }
-    let free = room(rt, out, to)?;
-    Ok(put(b"\n", out, free))
+    out.room(rt)?;
+    out.put(b"\n");
+    Ok(())
 }
 
 fn put_list(
@@ -62,16 +60,13 @@ fn put_list(
     head: u64,
     count: usize,
     arena: &[u64],
-    out: &mut [u8],
-    at: usize,
-) -> io::Result<usize>
-    requires at_in_bounds { at ≤ length out.old }
-    requires in_bounds { 160 ≤ length out.old }
-    ensures upper_bound { IfOk result (λ after. after ≤ length out.new) }
-    ensures room_left { OnErr result (length out.new ≡ length out.old) }
+    out: &mut Output,
+) -> io::Result<()>
+    requires { Ready out.old }
+    ensures { StillReady out.old out.new }
 {
-    let first = put_with(b"0 ", count as u64, out, at);
-    put_nodes(rt, head, arena.len(), arena, out, first)
+    out.put_with(b"0 ", count as u64);
+    put_nodes(rt, head, arena.len(), arena, out)
 }
 
 // Puts the line that a command prints.
@@ -79,22 +74,18 @@ pub fn put_printed(
     rt: &impl Print,
     line: Printed,
     arena: &[u64],
-    out: &mut [u8],
-    at: usize,
-) -> io::Result<usize>
-    requires at_in_bounds { at ≤ length out.old }
-    requires in_bounds { 160 ≤ length out.old }
-    ensures upper_bound { IfOk result (λ after. after ≤ length out.new) }
-    ensures room_left { OnErr result (length out.new ≡ length out.old) }
-    ensures put { by_node line ≡ false → IsOkAnd result (λ after. Put (line_of arena.now line) out.old at after out.new) }
+    out: &mut Output,
+) -> io::Result<()>
+    requires { Ready out.old }
+    ensures ready { StillReady out.old out.new }
+    ensures put { by_node line ≡ false → IsOk result × Puts (line_of arena.now line) out.old out.new }
 {
     match line {
-        Printed::Reply(answer) => Ok(put_reply(answer, out, at)),
-        Printed::Figures(user, allocated, total) => {
-            Ok(put_figures(user, allocated, total, out, at))
-        }
-        Printed::Nodes(head, count) => put_list(rt, head, count, arena, out, at),
-        Printed::Set => Ok(put(b"set\n", out, at)),
-        Printed::BadLine => Ok(put(b"bad line\n", out, at)),
+        Printed::Reply(answer) => put_reply(answer, out),
+        Printed::Figures(user, allocated, total) => put_figures(user, allocated, total, out),
+        Printed::Nodes(head, count) => return put_list(rt, head, count, arena, out),
+        Printed::Set => out.put(b"set\n"),
+        Printed::BadLine => out.put(b"bad line\n"),
     }
+    Ok(())
 }

@@ -1,15 +1,15 @@
 -- Text put into a buffer, piece after piece.
 use mathlib.Core.Bool.{Bool, true, false}
-use mathlib.Core.List.{List, [], ◌∷◌, ◌++◌}
+use borrow.Rule.Slice.PartMut.{put_mid}
+use mathlib.Core.List.{List, [], ◌∷◌, ◌++◌, append_assoc}
 use mathlib.Core.Path.{◌≡◌, refl, sym, ap, ◌∙◌}
 use Prim.Native.Nat.{ℕ, suc, ◌+◌, ◌-◌, ◌<◌, ◌≤◌, min, max}
 use native.Mathlib.Nat.{add-zero, add-suc, suc-add}
-use native.Mathlib.Numerals.{add-one}
 use native.Mathlib.Omega.{arith}
 use borrow.Author.Tests.{leb-true, leb-false}
 use lib.Dec.{leb}
-use lib.ListN.{length, get_or, take, drop, set, length-append, length-take, take-append-drop, drop_of_length-le}
-use lib.Seq.{sets, length-sets, set_out, take-suc, length-take-le}
+use lib.ListN.{length, take, drop, set, length-append, length-take, take-append-drop, drop_of_length-le}
+use lib.Seq.{sets, sets-eq, length-sets, set_out, drop-drop}
 use Rattle.texts.specs.Put.{place_after, Put}
 
 -- past its end a buffer does not change
@@ -21,10 +21,9 @@ pub sets-append : (xs ys l : List ℕ) (i : ℕ) → sets l i (xs ++ ys) ≡ set
 sets-append [] ys l i = rw (add-zero i)
 sets-append (x ∷ xs) ys l i = sets-append xs ys (set l i x) (suc i) ∙ ap (λ (k : ℕ). sets (sets (set l i x) (suc i) xs) k ys) (suc-add i (length xs) ∙ sym (add-suc i (length xs)))
 
--- one byte more of a text
-pub sets_more : (text l : List ℕ) (i at : ℕ) → i < length text → set (sets l at (take i text)) (at + i) (get_or text i 0) ≡ sets l at (take (i + 1) text)
-sets_more text l i at h =
-    sym (rw (add-one, take-suc text i 0 h) (sets-append (take i text) (get_or text i 0 ∷ []) l at ∙ rw (length-take-le i text (omega arith))))
+-- a copy to a place of a buffer
+pub put_mid-sets : (a k : ℕ) (l text : List ℕ) → k ≡ length text → a + k ≤ length l → put_mid a k l text ≡ sets l a text
+put_mid-sets a k l text e h = rw e (rw (sets-eq text l a (omega arith)) (rw (append_assoc, drop-drop) refl))
 
 -- what has no place is not missed
 pub sets-fit : (text l : List ℕ) (at : ℕ) → at ≤ length l → sets l at (take (min (length text) (length l - at)) text) ≡ sets l at text

@@ -1,3 +1,4 @@
 pub mod Bytes
+pub mod Output
 pub mod Put
 pub mod Text

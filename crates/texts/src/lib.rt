@@ -3,10 +3,8 @@
 
 #![tactic(auto)]
 
-mod hex;
-mod output;
 mod text;
+mod waiting;
 
-pub use hex::put_hex;
-pub use output::room;
-pub use text::{put, put_number, put_with};
+pub use text::put;
+pub use waiting::Output;

@@ -1,11 +1,6 @@
--- `calls::put_table` meets its contract: the output stays within its buffer, and the words that are left fall. Assumes nothing.
-use Prim.Native.Nat.{◌≤◌, ◌-◌}
-use mathlib.Core.Path.{◌≡◌}
-use lib.ListN.{length}
+-- `calls::put_table` meets its contract: the output keeps its room. Assumes nothing.
+use Rattle.texts.specs.Output.{StillReady}
 use Rattle.calls.proofs.put_table.Given as goal
 
-abbrev pub invariant-loop-i : goal.invariant-loop-i
-invariant-loop-i g l = (l.to ≤ length l.out) × (length l.out ≡ length l.initial.out)
-
-abbrev pub decreases-loop-i : goal.decreases-loop-i
-decreases-loop-i g l = length l.t - l.i
+abbrev pub invariant-loop-w : goal.invariant-loop-w
+invariant-loop-w g l = StillReady l.fn.out l.out

@@ -1,8 +1,8 @@
--- `calls::run_line` meets its contract: the command that the held bytes are was run. Assumes nothing.
+-- `calls::run_line` meets its contract: the command that the line is was run. Assumes nothing.
 use mathlib.Core.Path.{ap, ◌∙◌}
 use native.Mathlib.Omega.{arith}
-use lib.ListN.{length, take}
 use borrow.Author.Rules.{rules}
+use Rattle.texts.proofs.Outputs.{still_puts}
 use Rattle.frame_lines.specs.Command.{command_of}
 use Rattle.frame_lines.specs.declared.Command.{Command}
 use Rattle.calls.specs.Run.{printed, words_after}
@@ -13,24 +13,27 @@ pub returns : goal.returns
 returns g c =
     let a = c.args in
     let command = c.command_of.ensures in
-    let line = c.run-line in
-    let free = c.in_ok-free in
+    let reply = c.run-reply in
+    let free = c.in_ok-room.ensures in
     let p = c.put_printed in record {
-      upper_bound = omega (arith, free.ensures.made, p.ensures.place, ap length p.ensures.bytes);
-      t_after = line.ensures.t_after ∙ ap (λ (m : Command). words_after m a.t.now) command;
-      shown = shown line.result (printed (command_of (take a.len a.held.now)) a.t.now) a.out.now p.new.out free.free p.result
-          (line.ensures.result_value ∙ ap (λ (m : Command). printed m a.t.now) command) (omega (arith, free.ensures.made)) p.ensures;
+      ready = still_puts free.ready p.ensures;
+      t_after = reply.ensures.t_after ∙ ap (λ (m : Command). words_after m a.t.now) command;
+      shown = shown reply.result (printed (command_of a.line.now) a.t.now) c.room.new.self p.new.out a.out.now.bytes.now free.bytes_left.bytes
+          (reply.ensures.result_value ∙ ap (λ (m : Command). printed m a.t.now) command) (omega (arith, free.made)) p.ensures;
       not_shown = search rules;
+      place_left = search rules;
       no_error = λ h. search rules;
     }
 
-pub returns-in_err-free : goal.returns-in_err-free
-returns-in_err-free g c =
+pub returns-in_err-room : goal.returns-in_err-room
+returns-in_err-room g c =
     let a = c.args in
+    let e = c.in_err-room.ensures in
     record {
-      upper_bound = search rules;
-      t_after = c.run-line.ensures.t_after ∙ ap (λ (m : Command). words_after m a.t.now) c.command_of.ensures;
+      ready = e.ready;
+      t_after = c.run-reply.ensures.t_after ∙ ap (λ (m : Command). words_after m a.t.now) c.command_of.ensures;
       shown = search rules;
       not_shown = search rules;
-      no_error = λ h. absurd (c.in_err-free.ensures.no_error h);
+      place_left = search rules;
+      no_error = λ h. absurd (e.no_error h);
     }

@@ -1,64 +1,48 @@
--- `heap_calls::reading::run_line` meets its contract: the command that the held bytes are was run. Assumes nothing.
+-- `heap_calls::reading::run_line` meets its contract: the command that the line is was run. Assumes nothing.
 use borrow.Author.Rules.{rules}
 use mathlib.Core.Bool.{false}
 use mathlib.Core.Path.{◌≡◌, ap, ◌∙◌}
 use native.Mathlib.Omega.{arith}
 use lib.ListN.{take}
+use Rattle.std.specs.Prelude.{Result, Ok, Err, IfOk}
+use Rattle.texts.proofs.Outputs.{still_then}
 use Rattle.heap_lines.specs.declared.Command.{Command}
 use Rattle.heap_lines.specs.Command.{command_of}
-use Rattle.heap_runs.specs.Run.{Machine, machine, after}
+use Rattle.heap_runs.specs.Run.{after}
+use Rattle.heap_runs.specs.Running.{machine_of}
 use Rattle.heap_runs.specs.Text.{printed, by_node, is_long}
 use Rattle.heap_shown.proofs.Lengths.{shown}
 use Rattle.heap_calls.proofs.reading.run_line.Goals as goal
 
+if_ok : {T E P : Type 0} (r : Result T E) → P → IfOk r (λ _. P)
+if_ok (Ok x) p = p
+if_ok (Err e) p = tt
+
 pub returns : goal.returns
 returns g c =
     let a = c.args in
+    let m = machine_of a.machine.now in
     let command = c.command_of.ensures in
-    let r = c.run-ran in
-    let d = r.ensures.does in
+    let r = c.run-printed in
+    let free = c.in_ok-room.ensures in
     let p = c.put_printed in
-    let ran = d.machine_is ∙ ap (λ (m : Command). after m (machine a.lent a.arena.now a.ledger.now)) command in record {
-      out_after = c.in_ok-end.ensures.upper_bound;
-      fits_after = r.ensures.fits;
-      machine_after = ran;
-      arena_words = ap (λ (m : Machine). m.arena) ran;
-      ledger_words = ap (λ (m : Machine). m.ledger) ran;
-      room_left = search rules;
-      shown_short = λ h.
-          let short : by_node r.result.line ≡ false = d.long_is ∙ ap (λ (m : Command). is_long m (machine a.lent a.arena.now a.ledger.now)) command ∙ h in
-          shown (take r.result.lent.words r.new.arena) r.result.line (printed (command_of (take a.len a.held.now)) (machine a.lent a.arena.now a.ledger.now)) a.out.now p.new.out c.in_ok-free.free c.in_ok-end.end short
-          (d.line_is ∙ ap (λ (m : Command). printed m (machine a.lent a.arena.now a.ledger.now)) command) (omega (arith, c.in_ok-free.ensures.made)) (c.in_ok-end.ensures.put short);
-      no_error = λ h r. search rules;
+    let short : is_long (command_of a.line.now) m ≡ false → by_node r.result ≡ false = λ h. r.ensures.long_is ∙ ap (λ (k : Command). is_long k m) command ∙ h in
+    record {
+      ready = still_then free.ready p.ensures.ready;
+      machine_after = r.ensures.machine_is ∙ ap (λ (k : Command). after k m) command;
+      shown_short = if_ok p.result (λ h.
+          shown (take r.new.self.lent.words r.new.self.arena) r.result (printed (command_of a.line.now) m) c.room.new.self p.new.out a.out.now.bytes.now (short h) free.bytes_left.bytes
+          (r.ensures.line_is ∙ ap (λ (k : Command). printed k m) command) (omega (arith, free.made)) (p.ensures.put (short h)).1);
+      no_error = λ h room. (p.ensures.put (short h)).0;
     }
 
-pub returns-in_err-free : goal.returns-in_err-free
-returns-in_err-free g c =
+pub returns-in_err-room : goal.returns-in_err-room
+returns-in_err-room g c =
     let a = c.args in
-    let ran = c.run-ran.ensures.does.machine_is ∙ ap (λ (m : Command). after m (machine a.lent a.arena.now a.ledger.now)) c.command_of.ensures in record {
-      out_after = search rules;
-      fits_after = search rules;
-      machine_after = search rules;
-      arena_words = ap (λ (m : Machine). m.arena) ran;
-      ledger_words = ap (λ (m : Machine). m.ledger) ran;
-      room_left = search rules;
+    let e = c.in_err-room.ensures in
+    record {
+      ready = e.ready;
+      machine_after = c.run-printed.ensures.machine_is ∙ ap (λ (m : Command). after m (machine_of a.machine.now)) c.command_of.ensures;
       shown_short = search rules;
-      no_error = λ h r. absurd (c.in_err-free.ensures.no_error r);
-    }
-
-pub returns-in_err-end : goal.returns-in_err-end
-returns-in_err-end g c =
-    let a = c.args in
-    let ran = c.run-ran.ensures.does.machine_is ∙ ap (λ (m : Command). after m (machine a.lent a.arena.now a.ledger.now)) c.command_of.ensures in record {
-      out_after = search rules;
-      fits_after = search rules;
-      machine_after = search rules;
-      arena_words = ap (λ (m : Machine). m.arena) ran;
-      ledger_words = ap (λ (m : Machine). m.ledger) ran;
-      room_left = search rules;
-      shown_short = search rules;
-      no_error = λ h r.
-          let d = c.run-ran.ensures.does in
-          let short : by_node c.run-ran.result.line ≡ false = d.long_is ∙ ap (λ (m : Command). is_long m (machine a.lent a.arena.now a.ledger.now)) c.command_of.ensures ∙ h in
-          absurd (c.in_err-end.ensures.put short);
+      no_error = λ h r. absurd (e.no_error r);
     }

@@ -1,11 +1,6 @@
--- `heap_listed::listing::put_heads` meets its contract: the output stays within its buffer, and the classes that are left fall. Assumes nothing.
-use Prim.Native.Nat.{◌-◌, ◌≤◌}
-use mathlib.Core.Path.{◌≡◌}
-use lib.ListN.{length}
+-- `heap_listed::listing::put_heads` meets its contract: the output keeps its room. Assumes nothing.
+use Rattle.texts.specs.Output.{StillReady}
 use Rattle.heap_listed.proofs.listing.put_heads.Given as goal
 
-abbrev pub invariant-loop-class : goal.invariant-loop-class
-invariant-loop-class g l = (l.to ≤ length l.out) × (length l.out ≡ length l.initial.out) × (l.class ≤ 33)
-
-abbrev pub decreases-loop-class : goal.decreases-loop-class
-decreases-loop-class g l = 33 - l.class
+abbrev pub invariant-loop-head : goal.invariant-loop-head
+invariant-loop-head g l = StillReady l.fn.out l.out

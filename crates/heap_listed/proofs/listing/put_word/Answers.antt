@@ -1,6 +1,6 @@
 -- `heap_listed::listing::put_word` meets its contract: text after text. Assumes nothing.
-use Rattle.texts.proofs.Putting.{then}
+use Rattle.texts.proofs.Outputs.{then}
 use Rattle.heap_listed.proofs.listing.put_word.Goals as goal
 
 pub returns : goal.returns
-returns c = then (then (then c.put_with-first.ensures c.put-second.ensures) c.put_hex-third.ensures) c.put.ensures
+returns c = then (then (then c.put_with.ensures c.put.ensures) c.put_hex.ensures) c.put-2.ensures

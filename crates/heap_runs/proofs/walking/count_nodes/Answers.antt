@@ -14,14 +14,14 @@ pub loop-count-init : goal.loop-count-init
 loop-count-init c =
     let a = c.args in
     let all : length a.arena.now - 0 ≡ length a.arena.now = omega arith in
-    (omega arith, omega (arith, ap (λ (k : ℕ). length (nodes k a.arena.now a.head)) all))
+    omega (arith, ap (λ (k : ℕ). length (nodes k a.arena.now a.head)) all)
 
 pub returns-then-step-eq0 : goal.returns-then-step-eq0
 returns-then-step-eq0 c =
     let l = c.loop-count in
     let a = c.args in
     let n : (step_at a.arena.now l.at 0).node ≡ 0 = sym (ap (λ (s : Step). s.node) c.following-step.ensures) ∙ omega (arith, c.if-step-eq0.true) in
-    omega (arith, l.invariant.1, count-end (length a.arena.now - l.count) a.arena.now l.at (yields_none a.arena.now l.at n))
+    omega (arith, l.invariant, count-end (length a.arena.now - l.count) a.arena.now l.at (yields_none a.arena.now l.at n))
 
 pub loop-count-preserved : goal.loop-count-preserved
 loop-count-preserved c =
@@ -32,10 +32,10 @@ loop-count-preserved c =
     let step = count-step (length a.arena.now - l.count) a.arena.now l.at (omega arith) y.0 in
     let fewer : length a.arena.now - l.count - 1 ≡ length a.arena.now - (l.count + 1) = omega arith in
     let node : c.following-step.result.at ≡ next a.arena.now l.at = ap (λ (s : Step). s.at) e ∙ y.1 in
-    (omega arith, omega (arith, l.invariant.1, step ∙ (λ i. suc (length (nodes (fewer i) a.arena.now (sym node i))))))
+    omega (arith, l.invariant, step ∙ (λ i. suc (length (nodes (fewer i) a.arena.now (sym node i)))))
 
 pub returns : goal.returns
 returns c =
     let l = c.loop-count in
     let a = c.args in
-    omega (arith, l.invariant.1, count_none (length a.arena.now - l.count) a.arena.now l.at (omega arith))
+    omega (arith, l.invariant, count_none (length a.arena.now - l.count) a.arena.now l.at (omega arith))
