@@ -13,7 +13,7 @@ use Rattle.answers.specs.declared.Refusal.TheVariants.{BadAlign, NotGranted}
 use Rattle.blocks.specs.Blocks.{is_power_of_two, size_of}
 use Rattle.blocks.proofs.Powers.{multiple-le}
 use Rattle.blocks.proofs.Rounding.{size_is}
-use Rattle.ledger.specs.declared.Found.TheVariants.{At, Nowhere}
+use Rattle.std.specs.Prelude.{Some, None}
 use Rattle.ledger.specs.Ledger.{Grant, grant, same, strike, some, ledger_words}
 use Rattle.ledger.specs.Kept.{search, is_at}
 use Rattle.ledger.proofs.Grants.{Records, none, next}
@@ -43,14 +43,14 @@ pub record Recorded (order bytes k n a : ℕ) (gs : List Grant) : Type 0 where
   pub allocated : 2 ^ k ≤ bytes_of (map block_of gs)
   pub placed : Placed bytes k a
 
-recorded : {order floor bytes : ℕ} {gs : List Grant} (k n a i : ℕ) → Records order floor gs → placedb bytes (map block_of gs) ≡ true → search (same k n a) gs ≡ At i
+recorded : {order floor bytes : ℕ} {gs : List Grant} (k n a i : ℕ) → Records order floor gs → placedb bytes (map block_of gs) ≡ true → search (same k n a) gs ≡ Some i
     → Recorded order bytes k n a gs
 recorded k n a i none p e = let z : ◌≡◌ {A = ℕ} 0 1 = cc in absurd (omega arith)
 recorded {order} {bytes = bytes} k n a i (next {k = j} {n = m} {a = b} {gs = gs} l s f r) p e =
     go (same k n a (grant j m b)) refl e (λ t q. recorded k n a t r (placed-fact bytes j b (map block_of gs) p).1 q)
   where
-    go : (t : Bool) → same k n a (grant j m b) ≡ t → search (same k n a) (grant j m b ∷ gs) ≡ At i
-        → ((t : ℕ) → search (same k n a) gs ≡ At t → Recorded order bytes k n a gs) → Recorded order bytes k n a (grant j m b ∷ gs)
+    go : (t : Bool) → same k n a (grant j m b) ≡ t → search (same k n a) (grant j m b ∷ gs) ≡ Some i
+        → ((t : ℕ) → search (same k n a) gs ≡ Some t → Recorded order bytes k n a gs) → Recorded order bytes k n a (grant j m b ∷ gs)
     go true t e rec =
         let q = same-fact k n a j m b t in
         let here = (placed-fact bytes j b (map block_of gs) p).0 in
@@ -70,22 +70,22 @@ recorded {order} {bytes = bytes} k n a i (next {k = j} {n = m} {a = b} {gs = gs}
         let x = rec w.0 w.1 in
         record { class_low = x.class_low; class-high = x.class-high; holds = x.holds; user = omega (arith, x.user); allocated = omega (arith, x.allocated); placed = x.placed }
 
-pub recorded-in : (st : State) (k n a i : ℕ) → Sound st.heap st.arena st.ledger → search (same k n a) (granted st) ≡ At i
+pub recorded-in : (st : State) (k n a i : ℕ) → Sound st.heap st.arena st.ledger → search (same k n a) (granted st) ≡ Some i
     → Recorded st.heap.order (length st.arena * 8) k n a (granted st)
 recorded-in st k n a i s e =
     recorded k n a i (kept-records st.heap.order st.heap.count st.ledger (kept st s))
     (placed-parts (length st.arena * 8) (free_blocks st.heap st.arena) (granted_blocks st.heap st.ledger) s.placed).1 e
 
-pub index_in : (st : State) (k n a i : ℕ) → Sound st.heap st.arena st.ledger → search (same k n a) (granted st) ≡ At i → i < st.heap.count
+pub index_in : (st : State) (k n a i : ℕ) → Sound st.heap st.arena st.ledger → search (same k n a) (granted st) ≡ Some i → i < st.heap.count
 index_in st k n a i s e =
     omega (arith, search-within (same k n a) (granted st) i e, length-grants st.heap.order st.heap.count st.ledger (kept st s))
 
 -- ---- what is decided, by the tests in their order: the same for a release and a zero fill
 
-some-found : (p : Grant → Bool) (gs : List Grant) (i : ℕ) → search p gs ≡ At i → some p gs ≡ true
+some-found : (p : Grant → Bool) (gs : List Grant) (i : ℕ) → search p gs ≡ Some i → some p gs ≡ true
 some-found p gs i e = search-some p gs ∙ ap is_at e
 
-none_found : (p : Grant → Bool) (gs : List Grant) → search p gs ≡ Nowhere → some p gs ≡ false
+none_found : (p : Grant → Bool) (gs : List Grant) → search p gs ≡ None → some p gs ≡ false
 none_found p gs e = search-some p gs ∙ ap is_at e
 
 module _ (address size align : ℕ) (st : State) where
@@ -127,19 +127,19 @@ module _ (address size align : ℕ) (st : State) where
       past-align : tested d ≡ judge (refuse (not_granted address size align st) NotGranted ∷ []) d
       past-align = judged-no align-test BadAlign (refuse (not_granted address size align st) NotGranted ∷ []) d (rw aligned)
 
-      pub not_there : search (same class size address) (granted st) ≡ Nowhere → tested d ≡ refused NotGranted
+      pub not_there : search (same class size address) (granted st) ≡ None → tested d ≡ refused NotGranted
       not_there e =
           let f : some its (granted st) ≡ false = none_found its (granted st) (rw (← class-is) e) in
           past-align ∙ judged-yes (not_granted address size align st) NotGranted [] d (rw f)
 
-      pub there : (i : ℕ) → search (same class size address) (granted st) ≡ At i → tested d ≡ d
+      pub there : (i : ℕ) → search (same class size address) (granted st) ≡ Some i → tested d ≡ d
       there i e =
           let f : some its (granted st) ≡ true = some-found its (granted st) i (rw (← class-is) e) in
           past-align ∙ judged-no (not_granted address size align st) NotGranted [] d (rw f)
 
   -- what was struck out of the ledger and put into the lists is what is decided
   module _ (class i : ℕ) (sound : Sound st.heap st.arena st.ledger) (class-is : class ≡ class_for size align)
-      (found : search (same class size address) (granted st) ≡ At i) where
+      (found : search (same class size address) (granted st) ≡ Some i) where
     rows : Records st.heap.order 0 (granted st)
     rows = kept-records st.heap.order st.heap.count st.ledger (kept st sound)
 

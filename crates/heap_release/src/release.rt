@@ -8,7 +8,6 @@ ghost use Rattle.heap_core.specs.Deciding.{carried};
 use answers::Refusal;
 use heap_core::{class_for, refused};
 use heap_state::{Heap, Reply};
-use ledger::Found;
 
 // The block that was granted at the address for this size and alignment becomes free; answers how many nodes were compared with its buddies.
 pub fn release_bytes(
@@ -27,7 +26,7 @@ pub fn release_bytes(
     }
     let class = class_for(size, align);
     let found = ledger::find(ledger, h.count, class, size, address);
-    let Found::At(i) = found else {
+    let Some(i) = found else {
         return refused(h, Refusal::NotGranted);
     };
     ledger::strike(ledger, h.count, i);
@@ -59,7 +58,7 @@ pub fn zero_bytes(
     }
     let class = class_for(size, align);
     let found = ledger::find(ledger, h.count, class, size, address);
-    let Found::At(_) = found else {
+    let Some(_) = found else {
         return refused(h, Refusal::NotGranted);
     };
     let from = (address / 8) as usize;

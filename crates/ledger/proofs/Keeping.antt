@@ -12,7 +12,7 @@ use Rattle.words.specs.Words.{pad}
 use Rattle.words.proofs.Pad.{length-pad}
 use borrow.Author.Tests.{ltb-true, ltb-false, lt-ltb, le-ltb, eqb-false}
 use Rattle.words.proofs.Tests.{clash}
-use Rattle.ledger.specs.declared.Found.TheVariants.{At}
+use Rattle.std.specs.Prelude.{Some}
 use Rattle.ledger.specs.Ledger.{Grant, grant, address, enter, strike, same, some, word_of, grants, ledger_words}
 use Rattle.ledger.specs.Kept.{Kept, search, below, stands_at}
 use Rattle.ledger.proofs.Grants.{Records, none, next, Fine, records_fit}
@@ -70,7 +70,7 @@ records-strike {order} {floor} p (next {k = k} {n = n} {a = a} {gs = gs} l s f r
     go true e rec = rw (e, strike) (records-lower floor (omega arith) rec)
     go false e rec = rw (e, strike) (next l s f rec)
 
-pub length-strike : {order floor : ℕ} {gs : List Grant} → Records order floor gs → (k n a i : ℕ) → search (same k n a) gs ≡ At i
+pub length-strike : {order floor : ℕ} {gs : List Grant} → Records order floor gs → (k n a i : ℕ) → search (same k n a) gs ≡ Some i
     → suc (length (strike (same k n a) gs)) ≡ length gs
 length-strike {gs = gs} r k n a i e =
     let h : i < length gs = search-within (same k n a) gs i e in
@@ -96,7 +96,7 @@ module _ (order count : ℕ) (t : List ℕ) (kept : Kept order count t) where
         ap (λ (c : ℕ). grants c (ledger_words (length t) (enter (grant k n a) (grants count t)))) (sym count-enter)
         ∙ grants-words (length t) (enter (grant k n a) (grants count t)) (omega (arith, count-enter)) (records_fit all-enter)
 
-  module _ (k n a i : ℕ) (there : search (same k n a) (grants count t) ≡ At i) where
+  module _ (k n a i : ℕ) (there : search (same k n a) (grants count t) ≡ Some i) where
     count-strike : length (strike (same k n a) (grants count t)) ≡ count - 1
     count-strike = omega (arith, length-strike (kept-records order count t kept) k n a i there, length-grants order count t kept)
 

@@ -11,7 +11,7 @@ use Rattle.words.proofs.Pad.{length-pad, pad-fits, pad-replaced}
 use Rattle.words.proofs.Parts.{map-take, map-drop}
 use Rattle.words.proofs.Writing.{run-written}
 use Rattle.words.proofs.Zeros.{zeros-are, zeros-made}
-use Rattle.ledger.specs.declared.Found.TheVariants.{At, Nowhere}
+use Rattle.std.specs.Prelude.{Some, None}
 use Rattle.ledger.specs.Ledger.{Grant, address, address_of, grant_of, word_of, same, grants, ledger_words}
 use Rattle.ledger.specs.Kept.{Kept, below, search}
 use Rattle.ledger.proofs.Grants.{Records, Fitting, records-of, words_of, grants-of, words-made}
@@ -48,10 +48,10 @@ module _ (order count : ℕ) (t : List ℕ) (kept : Kept order count t) where
     here : i < count → same k n a (grant_at (below a (grants count t)) (grants count t)) ≡ same k n a (grant_of (get_or t i 0))
     here h = ap (λ (x : ℕ). same k n a (grant_at x (grants count t))) (sym place) ∙ ap (same k n a) (grant-at i h)
 
-    pub found : i < count → same k n a (grant_of (get_or t i 0)) ≡ true → search (same k n a) (grants count t) ≡ At i
-    found h e = search-here k n a (grants count t) (omega (arith, length-grants)) (here h ∙ e) ∙ ap At (sym place)
+    pub found : i < count → same k n a (grant_of (get_or t i 0)) ≡ true → search (same k n a) (grants count t) ≡ Some i
+    found h e = search-here k n a (grants count t) (omega (arith, length-grants)) (here h ∙ e) ∙ ap Some (sym place)
 
-    pub not_found : (i < count → same k n a (grant_of (get_or t i 0)) ≡ false) → search (same k n a) (grants count t) ≡ Nowhere
+    pub not_found : (i < count → same k n a (grant_of (get_or t i 0)) ≡ false) → search (same k n a) (grants count t) ≡ None
     not_found e = search_no k n a kept-records (λ h. let l : i < count = omega (arith, length-grants) in here l ∙ e l)
 
   -- what move_tail asks

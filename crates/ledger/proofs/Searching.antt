@@ -8,8 +8,7 @@ use lib.Dec.{eqb, ltb}
 use lib.ListN.{length, take, drop, get_or}
 use borrow.Author.Tests.{ltb-true, ltb-false, lt-ltb, le-ltb, eqb-true, ne_eqb}
 use Rattle.words.proofs.Tests.{no, both}
-use Rattle.ledger.specs.declared.Found.{Found}
-use Rattle.ledger.specs.declared.Found.TheVariants.{At, Nowhere}
+use Rattle.std.specs.Prelude.{Option, Some, None}
 use Rattle.ledger.specs.Ledger.{Grant, grant, address, same, some, strike}
 use Rattle.ledger.specs.Kept.{later, search, is_at, stands_at, below}
 use Rattle.ledger.proofs.Grants.{Records, none, next}
@@ -62,20 +61,20 @@ other : (k n a j m b : ℕ) → (b ≡ a → ⊥) → same k n a (grant j m b) �
 other k n a j m b h = no _ (λ e. h (same-fact k n a j m b e).2)
 
 module _ (k n a : ℕ) where
-  search-above : {order floor : ℕ} {gs : List Grant} → Records order floor gs → a < floor → search (same k n a) gs ≡ Nowhere
+  search-above : {order floor : ℕ} {gs : List Grant} → Records order floor gs → a < floor → search (same k n a) gs ≡ None
   search-above none h = refl
   search-above (next {k = j} {n = m} {a = b} l s f r) h = rw (other k n a j m b (λ e. omega arith), search, search-above r (omega arith))
 
   -- it is not where it would stand
   pub search_no : {order floor : ℕ} {gs : List Grant} → Records order floor gs
-      → (below a gs < length gs → same k n a (grant_at (below a gs) gs) ≡ false) → search (same k n a) gs ≡ Nowhere
+      → (below a gs < length gs → same k n a (grant_at (below a gs) gs) ≡ false) → search (same k n a) gs ≡ None
   search_no none h = refl
   search_no (next {k = j} {n = m} {a = b} {gs = gs} l s f r) h = go (ltb b a) refl h (search_no r)
     where
       go : (t : Bool) → ltb b a ≡ t
           → (below a (grant j m b ∷ gs) < suc (length gs) → same k n a (grant_at (below a (grant j m b ∷ gs)) (grant j m b ∷ gs)) ≡ false)
-          → ((below a gs < length gs → same k n a (grant_at (below a gs) gs) ≡ false) → search (same k n a) gs ≡ Nowhere)
-          → search (same k n a) (grant j m b ∷ gs) ≡ Nowhere
+          → ((below a gs < length gs → same k n a (grant_at (below a gs) gs) ≡ false) → search (same k n a) gs ≡ None)
+          → search (same k n a) (grant j m b ∷ gs) ≡ None
       go true e h rec =
           let u : b < a = ltb-true b a e in
           let g : below a gs < length gs → same k n a (grant_at (below a gs) gs) ≡ false = λ q. (rw (e, below) at h) (omega arith) in
@@ -86,14 +85,14 @@ module _ (k n a : ℕ) where
           rw (g, search, search-above r (omega arith))
 
   -- it is there
-  pub search-here : (gs : List Grant) → below a gs < length gs → same k n a (grant_at (below a gs) gs) ≡ true → search (same k n a) gs ≡ At (below a gs)
+  pub search-here : (gs : List Grant) → below a gs < length gs → same k n a (grant_at (below a gs) gs) ≡ true → search (same k n a) gs ≡ Some (below a gs)
   search-here [] h e = absurd (omega arith)
   search-here (grant j m b ∷ gs) h e = go (ltb b a) refl h e (search-here gs)
     where
       go : (t : Bool) → ltb b a ≡ t → below a (grant j m b ∷ gs) < suc (length gs)
           → same k n a (grant_at (below a (grant j m b ∷ gs)) (grant j m b ∷ gs)) ≡ true
-          → (below a gs < length gs → same k n a (grant_at (below a gs) gs) ≡ true → search (same k n a) gs ≡ At (below a gs))
-          → search (same k n a) (grant j m b ∷ gs) ≡ At (below a (grant j m b ∷ gs))
+          → (below a gs < length gs → same k n a (grant_at (below a gs) gs) ≡ true → search (same k n a) gs ≡ Some (below a gs))
+          → search (same k n a) (grant j m b ∷ gs) ≡ Some (below a (grant j m b ∷ gs))
       go true t h e rec =
           let u : b < a = ltb-true b a t in
           rw (t, below, other k n a j m b (λ q. omega arith), search, rec (omega (arith, rw (t, below) at h)) (rw (t, below) at e))
@@ -105,9 +104,9 @@ pub search-some : (p : Grant → Bool) (gs : List Grant) → some p gs ≡ is_at
 search-some p [] = refl
 search-some p (g ∷ gs) = go (p g) refl (search-some p gs)
   where
-    is_later : (s : Found) → is_at (later s) ≡ is_at s
-    is_later (At i) = refl
-    is_later Nowhere = refl
+    is_later : (s : Option ℕ) → is_at (later s) ≡ is_at s
+    is_later (Some i) = refl
+    is_later None = refl
 
     go : (t : Bool) → p g ≡ t → some p gs ≡ is_at (search p gs) → some p (g ∷ gs) ≡ is_at (search p (g ∷ gs))
     go true e rec = rw (e, some, search)
@@ -119,16 +118,16 @@ none-stands a [] h = refl
 none-stands a (grant j m b ∷ gs) h = rw (ne_eqb b a (h 0 (omega arith)), some) (none-stands a gs (λ i l. h (suc i) (omega arith)))
 
 -- a search that found something in the rest of a list
-pub later-at : (s : Found) (i : ℕ) → later s ≡ At i → (j : ℕ) × (s ≡ At j) × (i ≡ suc j)
-later-at (At j) i e = (j, refl, cc)
-later-at Nowhere i e = let z : ◌≡◌ {A = ℕ} 0 1 = cc in absurd (omega arith)
+pub later-at : (s : Option ℕ) (i : ℕ) → later s ≡ Some i → (j : ℕ) × (s ≡ Some j) × (i ≡ suc j)
+later-at (Some j) i e = (j, refl, cc)
+later-at None i e = let z : ◌≡◌ {A = ℕ} 0 1 = cc in absurd (omega arith)
 
-pub search-within : (p : Grant → Bool) (gs : List Grant) (i : ℕ) → search p gs ≡ At i → i < length gs
+pub search-within : (p : Grant → Bool) (gs : List Grant) (i : ℕ) → search p gs ≡ Some i → i < length gs
 search-within p [] i e = let z : ◌≡◌ {A = ℕ} 0 1 = cc in absurd (omega arith)
 search-within p (g ∷ gs) i e = go (p g) refl e (search-within p gs)
   where
-    go : (t : Bool) → p g ≡ t → search p (g ∷ gs) ≡ At i → ((j : ℕ) → search p gs ≡ At j → j < length gs) → i < suc (length gs)
-    go true q e rec = let z : At 0 ≡ At i = rw (q, search) at e in let w : 0 ≡ i = cc in omega arith
+    go : (t : Bool) → p g ≡ t → search p (g ∷ gs) ≡ Some i → ((j : ℕ) → search p gs ≡ Some j → j < length gs) → i < suc (length gs)
+    go true q e rec = let z : Some 0 ≡ Some i = rw (q, search) at e in let w : 0 ≡ i = cc in omega arith
     go false q e rec = let l = later-at (search p gs) i (rw (q, search) at e) in omega (arith, rec l.0 l.1, l.2)
 
 module _ (k n a : ℕ) where
@@ -137,16 +136,16 @@ module _ (k n a : ℕ) where
   strike-above (next {k = j} {n = m} {a = b} l s f r) h = rw (other k n a j m b (λ e. omega arith), strike, strike-above r (omega arith))
 
   -- it stands at one place, so it is struck out there
-  pub strike-at : {order floor : ℕ} {gs : List Grant} → Records order floor gs → (i : ℕ) → search (same k n a) gs ≡ At i
+  pub strike-at : {order floor : ℕ} {gs : List Grant} → Records order floor gs → (i : ℕ) → search (same k n a) gs ≡ Some i
       → strike (same k n a) gs ≡ take i gs ++ drop (suc i) gs
   strike-at none i e = let z : ◌≡◌ {A = ℕ} 0 1 = cc in absurd (omega arith)
   strike-at (next {k = j} {n = m} {a = b} {gs = gs} l s f r) i e = go (same k n a (grant j m b)) refl e (strike-at r)
     where
-      go : (t : Bool) → same k n a (grant j m b) ≡ t → search (same k n a) (grant j m b ∷ gs) ≡ At i
-          → ((x : ℕ) → search (same k n a) gs ≡ At x → strike (same k n a) gs ≡ take x gs ++ drop (suc x) gs)
+      go : (t : Bool) → same k n a (grant j m b) ≡ t → search (same k n a) (grant j m b ∷ gs) ≡ Some i
+          → ((x : ℕ) → search (same k n a) gs ≡ Some x → strike (same k n a) gs ≡ take x gs ++ drop (suc x) gs)
           → strike (same k n a) (grant j m b ∷ gs) ≡ take i (grant j m b ∷ gs) ++ drop (suc i) (grant j m b ∷ gs)
       go true q e rec =
-          let z : At 0 ≡ At i = rw (q, search) at e in
+          let z : Some 0 ≡ Some i = rw (q, search) at e in
           let w : i ≡ 0 = cc in
           let u : b ≡ a = (same-fact k n a j m b q).2 in
           rw (q, strike, w, strike-above r (omega arith))

@@ -1,8 +1,6 @@
 -- A ledger in order, as the functions of src/records.rt ask for it, and what they answer.
-use Rattle.std.specs.Prelude.{◌≡◌, Bool, true, false, List, [], ◌∷◌, ℕ, suc, ◌≤◌, eqb, ltb, length, take, drop}
+use Rattle.std.specs.Prelude.{◌≡◌, Bool, true, false, Option, Some, None, List, [], ◌∷◌, ℕ, suc, ◌≤◌, eqb, ltb, length, take, drop}
 use Rattle.words.specs.Words.{zerosb}
-use Rattle.ledger.specs.declared.Found.{Found}
-use Rattle.ledger.specs.declared.Found.TheVariants.{At, Nowhere}
 use Rattle.ledger.specs.Ledger.{Grant, address, recordsb, ascendingb}
 
 -- a ledger with so many records, of a heap of this ORDER
@@ -18,17 +16,17 @@ abbrev pub InOrder : ℕ → List ℕ → Type 0
 InOrder count ledger = (order : ℕ) × Kept order count ledger
 
 -- the first granted block that passes a test
-abbrev pub later : Found → Found
-later (At i) = At (suc i)
-later Nowhere = Nowhere
+abbrev pub later : Option ℕ → Option ℕ
+later (Some i) = Some (suc i)
+later None = None
 
-abbrev pub search : (Grant → Bool) → List Grant → Found
-search p [] = Nowhere
-search p (g ∷ gs) = elim (p g) [ true ↦ At 0 | false ↦ later (search p gs) ]
+abbrev pub search : (Grant → Bool) → List Grant → Option ℕ
+search p [] = None
+search p (g ∷ gs) = elim (p g) [ true ↦ Some 0 | false ↦ later (search p gs) ]
 
-abbrev pub is_at : Found → Bool
-is_at (At i) = true
-is_at Nowhere = false
+abbrev pub is_at : Option ℕ → Bool
+is_at (Some i) = true
+is_at None = false
 
 -- does it stand at this address?
 abbrev pub stands_at : ℕ → Grant → Bool

@@ -7,10 +7,3 @@ mod records;
 
 pub use fields::{address_of, class_of, gap_of, record_word, requested_of};
 pub use records::{enter, find, strike};
-
-// Where a record stands among the others.
-#[derive(Clone, Copy)]
-pub enum Found {
-    At(usize),
-    Nowhere,
-}

@@ -4,22 +4,19 @@ ghost use Rattle.ledger.specs.Ledger.{grant, grant_of, grants, ledger_words, sam
 ghost use Rattle.ledger.specs.Ledger as ledger-spec;
 ghost use Rattle.ledger.specs.Kept.{InOrder, below, search};
 
-use super::Found;
 use super::fields::{address_of, class_of, record_word, requested_of};
 
-pub fn find(ledger: &[u64], count: u64, class: u64, requested: u64, address: u64) -> Found
+pub fn find(ledger: &[u64], count: u64, class: u64, requested: u64, address: u64) -> Option<usize>
     requires { InOrder count ledger.now }
     ensures { result ≡ search (same class requested address) (grants count ledger.now) }
 {
     let end = count as usize;
     let i = place(ledger, end, address);
-    if i >= end {
-        return Found::Nowhere;
+    if i < end && is_record(ledger[i], class, requested, address) {
+        Some(i)
+    } else {
+        None
     }
-    if is_record(ledger[i], class, requested, address) {
-        return Found::At(i);
-    }
-    Found::Nowhere
 }
 
 // Puts a record into its place; the records after it move up.
@@ -46,28 +43,12 @@ fn place(ledger: &[u64], count: usize, address: u64) -> usize
     requires { InOrder count ledger.now }
     ensures { result ≡ below address (grants count ledger.now) }
 {
-    let mut low: usize = 0;
-    let mut high = count;
-    while low < high {
-        let middle = low + (high - low) / 2;
-        if address_of(ledger[middle]) < address {
-            low = middle + 1;
-        } else {
-            high = middle;
-        }
-    }
-    low
+    ledger[..count].partition_point(|w| address_of(*w) < address)
 }
 
 // Whether a word is the record of these three numbers.
 fn is_record(w: u64, class: u64, requested: u64, address: u64) -> bool
     ensures { result ≡ same class requested address (grant_of w) }
 {
-    if class_of(w) != class {
-        return false;
-    }
-    if requested_of(w) != requested {
-        return false;
-    }
-    address_of(w) == address
+    class_of(w) == class && requested_of(w) == requested && address_of(w) == address
 }

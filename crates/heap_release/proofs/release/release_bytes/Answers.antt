@@ -34,7 +34,7 @@ strike-requires c =
     let a = c.args in
     let st = state a.h a.arena.now a.ledger.now in
     let k = kept st (sound-fact _ _ _ c.requires) in
-    ((a.h.order, k), index_in st _ _ _ _ (sound-fact _ _ _ c.requires) (sym c.find-found.ensures ∙ c.in-At.is))
+    ((a.h.order, k), index_in st _ _ _ _ (sound-fact _ _ _ c.requires) (sym c.find-found.ensures ∙ c.in-Some.is))
 
 pub overflow_sub-h : goal.overflow_sub-h
 overflow_sub-h c = omega (arith, (sound-fact _ _ _ c.requires).ranges.order-low)
@@ -42,27 +42,27 @@ overflow_sub-h c = omega (arith, (sound-fact _ _ _ c.requires).ranges.order-low)
 pub release_block-compared-requires : goal.release_block-compared-requires
 release_block-compared-requires c =
     let r = (sound-fact _ _ _ c.requires).ranges in
-    let g = recorded-in (state c.args.h c.args.arena.now c.args.ledger.now) _ _ _ _ (sound-fact _ _ _ c.requires) (sym c.find-found.ensures ∙ c.in-At.is) in
+    let g = recorded-in (state c.args.h c.args.arena.now c.args.ledger.now) _ _ _ _ (sound-fact _ _ _ c.requires) (sym c.find-found.ensures ∙ c.in-Some.is) in
     (omega (arith, g.class-high, r.order-high), omega (arith, r.order-low, r.order-high), r.arena-high)
 
 pub overflow_sub-g : goal.overflow_sub-g
 overflow_sub-g c =
-    omega (arith, index_in (state c.args.h c.args.arena.now c.args.ledger.now) _ _ _ _ (sound-fact _ _ _ c.requires) (sym c.find-found.ensures ∙ c.in-At.is))
+    omega (arith, index_in (state c.args.h c.args.arena.now c.args.ledger.now) _ _ _ _ (sound-fact _ _ _ c.requires) (sym c.find-found.ensures ∙ c.in-Some.is))
 
 pub overflow_sub-g-2 : goal.overflow_sub-g-2
 overflow_sub-g-2 c =
-    let g = recorded-in (state c.args.h c.args.arena.now c.args.ledger.now) _ _ _ _ (sound-fact _ _ _ c.requires) (sym c.find-found.ensures ∙ c.in-At.is) in
+    let g = recorded-in (state c.args.h c.args.arena.now c.args.ledger.now) _ _ _ _ (sound-fact _ _ _ c.requires) (sym c.find-found.ensures ∙ c.in-Some.is) in
     omega (arith, g.user, (sums _ _ _ (sound-fact _ _ _ c.requires).counters).user)
 
 pub overflow_sub-g-3 : goal.overflow_sub-g-3
 overflow_sub-g-3 c =
     let x = sound-fact _ _ _ c.requires in
-    let g = recorded-in (state c.args.h c.args.arena.now c.args.ledger.now) _ _ _ _ (sound-fact _ _ _ c.requires) (sym c.find-found.ensures ∙ c.in-At.is) in
+    let g = recorded-in (state c.args.h c.args.arena.now c.args.ledger.now) _ _ _ _ (sound-fact _ _ _ c.requires) (sym c.find-found.ensures ∙ c.in-Some.is) in
     omega (arith, g.allocated, (sums _ _ _ x.counters).allocated, c.size_of.ensures, size_is c.class_for-class.result (omega (arith, g.class-high, x.ranges.order-high)))
 
 pub returns : goal.returns
 returns c =
     let a = c.args in
     let st = state a.h a.arena.now a.ledger.now in
-    release-says a.address a.size a.align st _ _ (sound-fact _ _ _ c.requires) c.class_for-class.ensures (sym c.find-found.ensures ∙ c.in-At.is) (sym c.is_power_of_two.ensures ∙ c.if-not-is_power_of_two.false) _ _ _ _ _
+    release-says a.address a.size a.align st _ _ (sound-fact _ _ _ c.requires) c.class_for-class.ensures (sym c.find-found.ensures ∙ c.in-Some.is) (sym c.is_power_of_two.ensures ∙ c.if-not-is_power_of_two.false) _ _ _ _ _
     c.strike.ensures c.release_block-compared.ensures c.size_of.ensures

@@ -30,17 +30,17 @@ returns-in_default c =
 pub overflow_add-to : goal.overflow_add-to
 overflow_add-to c =
     let x = sound-fact _ _ _ c.requires in
-    let g = recorded-in (state c.args.h c.args.arena.now c.args.ledger.now) _ _ _ _ x (sym c.find-found.ensures ∙ c.in-At.is) in
+    let g = recorded-in (state c.args.h c.args.arena.now c.args.ledger.now) _ _ _ _ x (sym c.find-found.ensures ∙ c.in-Some.is) in
     omega (arith, g.holds, g.placed.inside, x.ranges.arena-high)
 
 pub slice_bounds-clear-end : goal.slice_bounds-clear-end
 slice_bounds-clear-end c =
     let a = c.args in
     let st = state a.h a.arena.now a.ledger.now in
-    omega (arith, part_in a.address a.size a.align st _ _ (sound-fact _ _ _ c.requires) c.class_for-class.ensures (sym c.find-found.ensures ∙ c.in-At.is) (sym c.is_power_of_two.ensures ∙ c.if-not-is_power_of_two.false))
+    omega (arith, part_in a.address a.size a.align st _ _ (sound-fact _ _ _ c.requires) c.class_for-class.ensures (sym c.find-found.ensures ∙ c.in-Some.is) (sym c.is_power_of_two.ensures ∙ c.if-not-is_power_of_two.false))
 
 pub returns : goal.returns
 returns c =
     let a = c.args in
     let st = state a.h a.arena.now a.ledger.now in
-    zero-says a.address a.size a.align st _ _ (sound-fact _ _ _ c.requires) c.class_for-class.ensures (sym c.find-found.ensures ∙ c.in-At.is) (sym c.is_power_of_two.ensures ∙ c.if-not-is_power_of_two.false) _ _ refl c.clear.ensures
+    zero-says a.address a.size a.align st _ _ (sound-fact _ _ _ c.requires) c.class_for-class.ensures (sym c.find-found.ensures ∙ c.in-Some.is) (sym c.is_power_of_two.ensures ∙ c.if-not-is_power_of_two.false) _ _ refl c.clear.ensures
