@@ -7,9 +7,7 @@ use lib.Pow.{pow_mono}
 use lib.ListN.{length, get_or, set, length-set}
 use lib.Seq.{get_or-set_same}
 use Rattle.linked_list.specs.Links.{next, popped}
-use Rattle.std.specs.Prelude.{Option, Some, None, Ok}
-use Rattle.std.specs.Option.{ok_or}
-use Rattle.answers.specs.declared.Refusal.TheVariants.{NoBlock}
+use Rattle.std.specs.Prelude.{Some, Ok}
 use Rattle.linked_list.specs.declared.Taken.{Taken}
 use Rattle.heap_state.specs.Lists.{Memory, head, push, pop, split, split_down}
 use Rattle.blocks.specs.Blocks.{size_of}
@@ -104,13 +102,9 @@ upper_fits k from size top block h some e f l b =
     omega arith
 
 -- no halving is left: the block is the first of its class
-pub taken : (from class k : ℕ) (m₀ m after : Memory) (r : Option ℕ) → (head from m₀ ≡ 0 → ⊥) → k ≤ class → Halving from class m₀ m k → Popped class m r after
-    → TakenOut from class m₀ (ok_or r NoBlock) after
+pub taken : (from class k b : ℕ) (m₀ m after : Memory) → k ≤ class → Halving from class m₀ m k → Popped class m (Some b) after → TakenOut from class m₀ (Ok b) after
 unfolding split_down
-taken from class k m₀ m after None some h l p =
-    let e : k ≡ class = omega (arith, l.low) in
-    absurd (some (sym l.block ∙ rw e p.0))
-taken from class k m₀ m after (Some b) some h l p =
+taken from class k b m₀ m after h l p =
     let z : k - class ≡ 0 = omega arith in
     let r : m ≡ split_down (from - class) class m₀ = rw z at l.rest in
     record { answer = ap Ok (p.0 ∙ ap (head class) r); memory = p.1 ∙ ap (pop class) r }

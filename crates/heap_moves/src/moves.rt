@@ -42,12 +42,17 @@ pub fn take_block(heads: &mut [u64; 33], arena: &mut [u64], from: u64, class: u6
     ensures { TakenOut from class (mem heads.old arena.old) result (mem heads.new arena.new) }
 {
     for k in (class..from).rev() {
-        let first = pop(heads, arena, k + 1).ok_or(Refusal::NoBlock)?;
+        let Some(first) = pop(heads, arena, k + 1) else {
+            return Err(Refusal::NoBlock);
+        };
         let upper = first + blocks::size_of(k);
         push(heads, arena, k, upper);
         push(heads, arena, k, first);
     }
-    pop(heads, arena, class).ok_or(Refusal::NoBlock)
+    let Some(first) = pop(heads, arena, class) else {
+        return Err(Refusal::NoBlock);
+    };
+    Ok(first)
 }
 
 // A node leaves its list, by the place of the link to it.
