@@ -7,13 +7,12 @@ use lib.Pow.{pow_mono}
 use lib.ListN.{length, get_or, set, length-set}
 use lib.Seq.{get_or-set_same}
 use Rattle.linked_list.specs.Links.{next, popped}
-use Rattle.std.specs.Prelude.{Some, None}
+use Rattle.std.specs.Prelude.{Some, Ok}
 use Rattle.linked_list.specs.declared.Taken.{Taken}
 use Rattle.heap_state.specs.Lists.{Memory, head, push, pop, split, split_down}
-use Rattle.std.specs.Prelude.{Ok}
 use Rattle.blocks.specs.Blocks.{size_of}
 use Rattle.blocks.proofs.Rounding.{size_is}
-use Rattle.heap_moves.specs.Moves.{mem, TakenOut}
+use Rattle.heap_moves.specs.Moves.{mem, Popped, TakenOut}
 use Rattle.heap_moves.proofs.Steps.{pop-is}
 
 -- the first block of class k is the one that is halved, and the halvings still to come, of what is there, make what all of them make
@@ -29,23 +28,15 @@ halving-start from class m l h = record { rest = refl; block = refl; low = h; hi
 
 -- ---- what a pop says
 
-pub nothing-popped : (first : ℕ) (arena : List ℕ) → popped first arena ≡ None → first ≡ 0
-nothing-popped zero arena e = refl
-nothing-popped (suc a) arena e = let w : ◌≡◌ {A = ℕ} 0 1 = cc in omega arith
-
-pub record BlockPopped (first : ℕ) (arena : List ℕ) (t : Taken) : Type 0 where
-  pub some : first ≡ 0 → ⊥
-  pub block : t.block ≡ first
-  pub link : t.head ≡ next arena first
-
-pub block-popped : (first : ℕ) (arena : List ℕ) (t : Taken) → popped first arena ≡ Some t → BlockPopped first arena t
-block-popped zero arena t e = let w : ◌≡◌ {A = ℕ} 0 1 = cc in absurd (no_way w)
+pub popped-some : (heads arena : List ℕ) (class : ℕ) (t : Taken) → popped (get_or heads class 0) arena ≡ Some t
+    → Popped class (mem heads arena) (Some t.block) (mem (set heads class t.head) arena)
+popped-some heads arena class t e = let p = go (get_or heads class 0) e in (p.0, pop-is heads arena class t.head p.1)
   where
-    no_way : ◌≡◌ {A = ℕ} 0 1 → ⊥
-    no_way w = omega arith
-block-popped (suc a) arena t e =
-    let u : t ≡ record { block = suc a; head = next arena (suc a) } = cc in
-    record { some = λ z. omega arith; block = ap (λ (x : Taken). x.block) u; link = ap (λ (x : Taken). x.head) u }
+    go : (first : ℕ) → popped first arena ≡ Some t → (t.block ≡ first) × (t.head ≡ next arena first)
+    go zero e = let w : ◌≡◌ {A = ℕ} 0 1 = cc in absurd (omega arith)
+    go (suc a) e =
+        let u : t ≡ record { block = suc a; head = next arena (suc a) } = cc in
+        (ap (λ (x : Taken). x.block) u, ap (λ (x : Taken). x.head) u)
 
 -- ---- one turn
 
@@ -89,21 +80,18 @@ split_by k b size m m₁ m₂ m₃ h e₁ e₂ e₃ eb es =
     rw (s, e₃, e₂, e₁, eb, es)
 
 -- the first block of class k is popped, and its halves are pushed
-pub halving-turn : (from class k : ℕ) (m₀ m₂ m₃ : Memory) (heads arena : List ℕ) (t : Taken) (size : ℕ) → from < 33 → class < k
-    → Halving from class m₀ (mem heads arena) k → popped (get_or heads k 0) arena ≡ Some t → size ≡ size_of (k - 1)
-    → m₂ ≡ push (k - 1) (t.block + size) (mem (set heads k t.head) arena) → m₃ ≡ push (k - 1) t.block m₂ → Halving from class m₀ m₃ (k - 1)
-halving-turn from class k m₀ m₂ m₃ heads arena t size f more h e es e₂ e₃ =
-    let p = block-popped (get_or heads k 0) arena t e in
+pub halving-turn : (from class k b size : ℕ) (m₀ m m₁ m₂ m₃ : Memory) → from < 33 → class < k → Halving from class m₀ m k → Popped k m (Some b) m₁
+    → size ≡ size_of (k - 1) → m₂ ≡ push (k - 1) (b + size) m₁ → m₃ ≡ push (k - 1) b m₂ → Halving from class m₀ m₃ (k - 1)
+halving-turn from class k b size m₀ m m₁ m₂ m₃ f more h p es e₂ e₃ =
     let hi : k ≤ from = h.high in
-    let s : m₃ ≡ split (k - 1) (mem heads arena) =
-    split_by k t.block size (mem heads arena) _ m₂ m₃ (omega arith) (pop-is heads arena k t.head p.link) e₂ e₃ p.block (es ∙ size_is (k - 1) (omega arith)) in
+    let s : m₃ ≡ split (k - 1) m = split_by k b size m m₁ m₂ m₃ (omega arith) p.1 e₂ e₃ p.0 (es ∙ size_is (k - 1) (omega arith)) in
     let back : suc (k - 1) ≡ k = omega arith in
     record {
-      rest = rw s (sym (turns k class (mem heads arena) more) ∙ h.rest);
-      block = rw s (split-head (k - 1) (mem heads arena) (omega (arith, h.wide)) ∙ rw back h.block);
+      rest = rw s (sym (turns k class m more) ∙ h.rest);
+      block = rw s (split-head (k - 1) m (omega (arith, h.wide)) ∙ rw back h.block);
       low = omega arith;
       high = omega arith;
-      wide = rw s (length-split (k - 1) (mem heads arena) ∙ h.wide);
+      wide = rw s (length-split (k - 1) m ∙ h.wide);
     }
 
 -- the block that is halved ends below 2 ^ 64, so its upper half starts there
@@ -114,17 +102,12 @@ upper_fits k from size top block h some e f l b =
     omega arith
 
 -- no halving is left: the block is the first of its class
-pub taken : (from class k : ℕ) (m₀ : Memory) (heads arena : List ℕ) (t : Taken) → k ≤ class → Halving from class m₀ (mem heads arena) k
-    → popped (get_or heads class 0) arena ≡ Some t → TakenOut from class m₀ (Ok t.block) (mem (set heads class t.head) arena)
+pub taken : (from class k b : ℕ) (m₀ m after : Memory) → k ≤ class → Halving from class m₀ m k → Popped class m (Some b) after → TakenOut from class m₀ (Ok b) after
 unfolding split_down
-taken from class k m₀ heads arena t out h e =
-    let p = block-popped (get_or heads class 0) arena t e in
+taken from class k b m₀ m after h l p =
     let z : k - class ≡ 0 = omega arith in
-    let r : mem heads arena ≡ split_down (from - class) class m₀ = rw z at h.rest in
-    record {
-      answer = ap Ok (p.block ∙ ap (head class) r);
-      memory = pop-is heads arena class t.head p.link ∙ ap (pop class) r;
-    }
+    let r : m ≡ split_down (from - class) class m₀ = rw z at l.rest in
+    record { answer = ap Ok (p.0 ∙ ap (head class) r); memory = p.1 ∙ ap (pop class) r }
 
 -- the block that comes out is the one that was halved
 pub halved-head : (n class : ℕ) (m : Memory) → class + n < length m.heads → head class (split_down n class m) ≡ head (class + n) m

@@ -1,5 +1,5 @@
 -- Forms of the promises of src/: heads and arena as one memory.
-use Rattle.std.specs.Prelude.{◌≡◌, List, ℕ, ◌+◌, ◌-◌, ◌^◌, ◌≤◌, ◌<◌, length}
+use Rattle.std.specs.Prelude.{◌≡◌, Option, MatchOption, List, ℕ, ◌+◌, ◌-◌, ◌^◌, ◌≤◌, ◌<◌, length}
 use Rattle.answers.specs.Paper.{Answer}
 use Rattle.std.specs.Prelude.{Ok}
 use Rattle.linked_list.specs.declared.Previous.{Previous}
@@ -16,6 +16,10 @@ pub record Servable (m : Memory) (from class : ℕ) : Type 0 where
   pub has_block : head from m ≡ 0 → ⊥
   pub wide : length m.heads ≡ 33
   pub ends : head from m + 2 ^ from < 2 ^ 64
+
+-- the first block of the class, if there is one, and the memory without it
+abbrev pub Popped : ℕ → Memory → Option ℕ → Memory → Type 0
+Popped class m r after = MatchOption r ((head class m ≡ 0) × (after ≡ m)) (λ b. (b ≡ head class m) × (after ≡ pop class m))
 
 -- the answer is the block that came out, and the memory is without it
 pub record TakenOut (from class : ℕ) (m : Memory) (r : Answer) (after : Memory) : Type 0 where

@@ -1,7 +1,7 @@
 // Blocks moved between the lists of a heap: those of an added range, of a grant, of a release.
 ghost use Rattle.std.specs.Prelude.{◌≡◌, ◌+◌, ◌-◌, ◌^◌, ◌≤◌, ◌<◌, length};
 ghost use Rattle.heap_state.specs.Lists.{push, pop, push_all, release};
-ghost use Rattle.heap_moves.specs.Moves.{mem, Servable, TakenOut, taken_out, released};
+ghost use Rattle.heap_moves.specs.Moves.{mem, Servable, Popped, TakenOut, taken_out, released};
 
 use answers::{Answer, Refusal};
 use linked_list::Previous;
@@ -24,30 +24,35 @@ fn drop_first(heads: &mut [u64; 33], arena: &[u64], class: u64)
     heads[at] = linked_list::next(arena, heads[at]);
 }
 
+// The first block of the class leaves its list, and is answered; nothing where the list has none.
+fn pop(heads: &mut [u64; 33], arena: &[u64], class: u64) -> Option<u64>
+    requires { class < 33 }
+    ensures { Popped class (mem heads.old arena.now) result (mem heads.new arena.now) }
+{
+    let at = class as usize;
+    let first = linked_list::pop(heads[at], arena)?;
+    heads[at] = first.head;
+    Some(first.block)
+}
+
 // The first block of class `from` is halved down to `class`, each time the upper half pushed and then the lower, and the block of `class`
 // that comes out is taken from its list. A list that has no block stops it.
 pub fn take_block(heads: &mut [u64; 33], arena: &mut [u64], from: u64, class: u64) -> Answer
     requires { Servable (mem heads.old arena.old) from class }
     ensures { TakenOut from class (mem heads.old arena.old) result (mem heads.new arena.new) }
 {
-    let mut k = from;
-    while class < k {
-        let popped = linked_list::pop(heads[k as usize], arena);
-        let Some(first) = popped else {
+    for k in (class..from).rev() {
+        let Some(first) = pop(heads, arena, k + 1) else {
             return Err(Refusal::NoBlock);
         };
-        heads[k as usize] = first.head;
-        k -= 1;
-        let upper = first.block + blocks::size_of(k);
+        let upper = first + blocks::size_of(k);
         push(heads, arena, k, upper);
-        push(heads, arena, k, first.block);
+        push(heads, arena, k, first);
     }
-    let popped = linked_list::pop(heads[class as usize], arena);
-    let Some(first) = popped else {
+    let Some(first) = pop(heads, arena, class) else {
         return Err(Refusal::NoBlock);
     };
-    heads[class as usize] = first.head;
-    Ok(first.block)
+    Ok(first)
 }
 
 // A node leaves its list, by the place of the link to it.
@@ -71,10 +76,9 @@ pub fn release_block(
     ensures { released result (mem heads.new arena.new) ≡ release top class block (mem heads.old arena.old) }
 {
     push(heads, arena, class, block);
-    let mut k = class;
     let mut low = block;
     let mut compared: u64 = 0;
-    while k < top {
+    for k in class..top {
         let buddy = blocks::buddy(low, k);
         let most = arena.len() as u64;
         let search = linked_list::find(heads[k as usize], arena, buddy, most);
@@ -82,12 +86,10 @@ pub fn release_block(
         if !search.found {
             return compared;
         }
-        let previous = search.previous;
-        take_out(heads, arena, k, previous, buddy);
+        take_out(heads, arena, k, search.previous, buddy);
         drop_first(heads, arena, k);
         low = low.min(buddy);
-        k += 1;
-        push(heads, arena, k, low);
+        push(heads, arena, k + 1, low);
     }
     compared
 }

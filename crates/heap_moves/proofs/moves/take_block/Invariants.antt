@@ -7,6 +7,3 @@ use Rattle.heap_moves.proofs.moves.take_block.Given as goal
 
 abbrev pub invariant-loop-k : goal.invariant-loop-k
 invariant-loop-k l = Halving l.from l.class (mem l.initial.heads l.initial.arena) (mem l.heads l.arena) l.k × (length l.arena ≡ length l.initial.arena)
-
-abbrev pub decreases-loop-k : goal.decreases-loop-k
-decreases-loop-k l = l.k
