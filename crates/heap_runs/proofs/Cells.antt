@@ -6,10 +6,12 @@ use Prim.Native.Nat.{ℕ}
 use native.Mathlib.Omega.{arith}
 use lib.Dec.{ltb}
 use lib.ListN.{length, take, set}
+use Rattle.std.specs.Prelude.{Ok, Err}
+use Rattle.grammar.specs.declared.BadLine.{BadLine as NoCommand}
 use Rattle.heap_state.specs.declared.Heap.{Heap}
 use Rattle.heap_lines.specs.declared.Cell.{Cell}
 use Rattle.heap_lines.specs.declared.Cell.TheVariants.{Arena, Ledger, Head}
-use Rattle.heap_lines.specs.declared.Command.TheVariants.{Set as Setting, Bad}
+use Rattle.heap_lines.specs.declared.Command.TheVariants.{Set as Setting}
 use Rattle.heap_runs.specs.declared.Lent.{Lent}
 use Rattle.heap_runs.specs.declared.Printed.{Printed}
 use Rattle.heap_runs.specs.declared.Printed.TheVariants.{Set, BadLine}
@@ -29,7 +31,7 @@ short false = refl
 
 does-set : (cell : Cell) (value : ℕ) (lent : Lent) (arena ledger : List ℕ) (r : Ran) (arena' ledger' : List ℕ)
     → machine r.lent arena' ledger' ≡ cond (inside cell lent) (with_cell cell value (machine lent arena ledger)) (machine lent arena ledger)
-    → r.line ≡ cond (inside cell lent) Set BadLine → Does (Setting cell value) (machine lent arena ledger) r arena' ledger'
+    → r.line ≡ cond (inside cell lent) Set BadLine → Does (Ok (Setting cell value)) (machine lent arena ledger) r arena' ledger'
 unfolding after printed
 does-set cell value lent arena ledger r arena' ledger' p q =
     record {
@@ -40,7 +42,7 @@ does-set cell value lent arena ledger r arena' ledger' p q =
 
 -- a word of one of the two
 pub does-arena : (i value : ℕ) (lent : Lent) (arena ledger : List ℕ) (line : Printed) (arena' : List ℕ) → line ≡ cond (ltb i lent.words) Set BadLine
-    → arena' ≡ cond (ltb i lent.words) (set arena i value) arena → Does (Setting (Arena i) value) (machine lent arena ledger) (ran_with lent line) arena' ledger
+    → arena' ≡ cond (ltb i lent.words) (set arena i value) arena → Does (Ok (Setting (Arena i) value)) (machine lent arena ledger) (ran_with lent line) arena' ledger
 does-arena i value lent arena ledger line arena' q p =
     does-set (Arena i) value lent arena ledger (ran_with lent line) arena' ledger (ap (λ (a : List ℕ). machine lent a ledger) p ∙ by_cases (ltb i lent.words)) q
   where
@@ -49,7 +51,7 @@ does-arena i value lent arena ledger line arena' q p =
     by_cases false = refl
 
 pub does-ledger : (i value : ℕ) (lent : Lent) (arena ledger : List ℕ) (line : Printed) (ledger' : List ℕ) → line ≡ cond (ltb i lent.records) Set BadLine
-    → ledger' ≡ cond (ltb i lent.records) (set ledger i value) ledger → Does (Setting (Ledger i) value) (machine lent arena ledger) (ran_with lent line) arena ledger'
+    → ledger' ≡ cond (ltb i lent.records) (set ledger i value) ledger → Does (Ok (Setting (Ledger i) value)) (machine lent arena ledger) (ran_with lent line) arena ledger'
 does-ledger i value lent arena ledger line ledger' q p =
     does-set (Ledger i) value lent arena ledger (ran_with lent line) arena ledger' (ap (machine lent arena) p ∙ by_cases (ltb i lent.records)) q
   where
@@ -60,7 +62,7 @@ does-ledger i value lent arena ledger line ledger' q p =
 -- a field of the record
 pub does-record : (cell : Cell) (value : ℕ) (lent : Lent) (arena ledger : List ℕ) (r : Ran) → arena_with cell value arena ≡ arena → ledger_with cell value ledger ≡ ledger
     → r ≡ cond (inside cell lent) (ran_with (with_heap (heap_with cell value lent.heap) lent) Set) (ran_with lent BadLine)
-    → Does (Setting cell value) (machine lent arena ledger) r arena ledger
+    → Does (Ok (Setting cell value)) (machine lent arena ledger) r arena ledger
 does-record cell value lent arena ledger r a l e =
     does-set cell value lent arena ledger r arena ledger
     (ap (λ (x : Ran). machine x.lent arena ledger) e ∙ by_cases (inside cell lent))
@@ -102,9 +104,9 @@ pub fits-words : (lent : Lent) (arena ledger : List ℕ) → Fits lent arena led
 fits-words lent arena ledger f arena' ledger' p q =
     record { arena_is = p ∙ f.arena_is; ledger_is = q ∙ f.ledger_is; words_fit = f.words_fit; records_fit = f.records_fit }
 
-pub does-bad : (lent : Lent) (arena ledger : List ℕ) (r : Ran) → r ≡ ran_with lent BadLine → Does Bad (machine lent arena ledger) r arena ledger
+pub does-bad : (x : NoCommand) (lent : Lent) (arena ledger : List ℕ) (r : Ran) → r ≡ ran_with lent BadLine → Does (Err x) (machine lent arena ledger) r arena ledger
 unfolding after printed
-does-bad lent arena ledger r e =
+does-bad x lent arena ledger r e =
     record {
       machine_is = ap (λ (x : Ran). machine x.lent arena ledger) e;
       line_is = ap (λ (x : Ran). line_of (take x.lent.words arena) x.line) e;
@@ -114,6 +116,6 @@ does-bad lent arena ledger r e =
 -- a head, and both at once
 pub head-set : (k value : ℕ) (lent : Lent) (arena ledger : List ℕ) → Fits lent arena ledger → (r : Ran)
     → r ≡ cond (ltb k 33) (ran_with (with_heap (heap_with (Head k) value lent.heap) lent) Set) (ran_with lent BadLine)
-    → Does (Setting (Head k) value) (machine lent arena ledger) r arena ledger × Fits r.lent arena ledger
+    → Does (Ok (Setting (Head k) value)) (machine lent arena ledger) r arena ledger × Fits r.lent arena ledger
 head-set k value lent arena ledger f r e =
     (does-record (Head k) value lent arena ledger r refl refl e, fits-record lent arena ledger f (ltb k 33) (heap_with (Head k) value lent.heap) r e)

@@ -5,6 +5,7 @@ use mathlib.Core.Path.{◌≡◌, refl, sym, ap, ◌∙◌}
 use Prim.Native.Nat.{ℕ, suc, ◌-◌, ◌<◌, ◌≤◌}
 use native.Mathlib.Omega.{arith}
 use lib.ListN.{length, take, drop, get_or, length-append, length-drop, take-append-drop}
+use Rattle.std.specs.Prelude.{Ok}
 use Rattle.answers.specs.declared.Answer.TheVariants.{Refused}
 use Rattle.answers.specs.declared.Refusal.TheVariants.{BadState}
 use Rattle.answers.specs.Paper.{paper}
@@ -80,7 +81,7 @@ replied-short r reply words records e = ap (λ (x : Ran). by_node x.line) e
 -- ---- a call on the heap, and the heap made again
 module _ (lent : Lent) (arena ledger : List ℕ) (r : Ran) (reply : Reply) (e : r ≡ replied_with reply lent.words lent.records) where
   pub does_call : (call : Call) (arena' ledger' : List ℕ) → Told (call_of call) (state lent.heap (take lent.words arena) (take lent.records ledger)) reply arena' ledger'
-      → Does (OnHeap call) (machine lent arena ledger) r (arena' ++ drop lent.words arena) (ledger' ++ drop lent.records ledger)
+      → Does (Ok (OnHeap call)) (machine lent arena ledger) r (arena' ++ drop lent.words arena) (ledger' ++ drop lent.records ledger)
   unfolding after printed
   does_call call arena' ledger' says =
       let A = arena' ++ drop lent.words arena in
@@ -92,7 +93,7 @@ module _ (lent : Lent) (arena ledger : List ℕ) (r : Ran) (reply : Reply) (e : 
       }
 
   pub does-remake : (order : ℕ) (ledger' : List ℕ) → Says (remade order (machine lent arena ledger)) reply (take lent.words arena) ledger'
-      → Does (Remake order) (machine lent arena ledger) r arena (ledger' ++ drop lent.records ledger)
+      → Does (Ok (Remake order)) (machine lent arena ledger) r arena (ledger' ++ drop lent.records ledger)
   unfolding after printed
   does-remake order ledger' says =
       let L = ledger' ++ drop lent.records ledger in
@@ -108,12 +109,12 @@ module _ (lent : Lent) (arena ledger : List ℕ) (r : Ran) (reply : Reply) (e : 
 -- ---- reading alone
 
 pub does-list : (class : ℕ) (lent : Lent) (arena ledger : List ℕ) (line : Printed) → Lists class (state lent.heap (take lent.words arena) (take lent.records ledger)) line
-    → Does (ListOf class) (machine lent arena ledger) (ran_with lent line) arena ledger
+    → Does (Ok (ListOf class)) (machine lent arena ledger) (ran_with lent line) arena ledger
 unfolding after printed
 does-list class lent arena ledger line l = record { machine_is = refl; line_is = l.line_is; long_is = l.long_is }
 
 pub does-stats : (lent : Lent) (arena ledger : List ℕ) (line : Printed) → Figured (state lent.heap (take lent.words arena) (take lent.records ledger)) line
-    → Does Stats (machine lent arena ledger) (ran_with lent line) arena ledger
+    → Does (Ok Stats) (machine lent arena ledger) (ran_with lent line) arena ledger
 unfolding after printed
 does-stats lent arena ledger line l = record { machine_is = refl; line_is = l.line_is; long_is = l.long_is }
 

@@ -6,6 +6,7 @@ use Prim.Native.Nat.{ℕ, ◌<◌, ◌≤◌}
 use borrow.Author.Tests.{eq-eqb, ne_eqb, lt-ltb, le-ltb}
 use lib.Dec.{eqb, ltb}
 use lib.ListN.{length, take, drop, replicate, length-replicate, take-append-drop}
+use Rattle.std.specs.Prelude.{Ok}
 use Rattle.answers.specs.Paper.{paper}
 use Rattle.heap_state.specs.State.{lengthsb, orderb, State, state, Outcome, Says, made_if, making}
 use Rattle.heap_state.specs.declared.Heap.{Heap}
@@ -46,7 +47,7 @@ making-keeps order a l h = refused-keeps (orderb order) (lengthsb (length a) (le
 
 -- ---- the command
 module _ (order words records : ℕ) (lent : Lent) (arena ledger : List ℕ) (r : Ran) where
-  pub does-too-many : too_many words records ≡ true → r ≡ ran_with lent BadLine → Does (Make order words records) (machine lent arena ledger) r arena ledger
+  pub does-too-many : too_many words records ≡ true → r ≡ ran_with lent BadLine → Does (Ok (Make order words records)) (machine lent arena ledger) r arena ledger
   unfolding after printed
   does-too-many h e =
       record {
@@ -62,7 +63,7 @@ module _ (order words records : ℕ) (lent : Lent) (arena ledger : List ℕ) (r 
       same : made order words records (machine lent arena ledger) ≡ over (replicate words 0) (making order (take words arena) (take records ledger))
       same = making-over order (replicate words 0) (take words arena) (take records ledger) (length-replicate words 0 ∙ sym whole)
 
-      line : (arena' : List ℕ) (w k : ℕ) → r ≡ replied_with reply w k → line_of (take r.lent.words arena') r.line ≡ printed (Make order words records) (machine lent arena ledger)
+      line : (arena' : List ℕ) (w k : ℕ) → r ≡ replied_with reply w k → line_of (take r.lent.words arena') r.line ≡ printed (Ok (Make order words records)) (machine lent arena ledger)
       unfolding printed
       line arena' w k e =
           replied-line r reply w k arena' e
@@ -71,7 +72,7 @@ module _ (order words records : ℕ) (lent : Lent) (arena ledger : List ℕ) (r 
           ∙ sym (ap (λ (t : Bool). cond t bad_line (outcome_text (made order words records (machine lent arena ledger)))) few)
 
       left : (t : Bool) → eqb (made order words records (machine lent arena ledger)).number 0 ≡ t
-          → after (Make order words records) (machine lent arena ledger)
+          → after (Ok (Make order words records)) (machine lent arena ledger)
           ≡ cond t (lending words records (made order words records (machine lent arena ledger)).state (machine lent arena ledger)) (machine (with_heap (made order words records (machine lent arena ledger)).state.heap lent) arena ledger)
       unfolding after
       left t e =
@@ -82,7 +83,7 @@ module _ (order words records : ℕ) (lent : Lent) (arena ledger : List ℕ) (r 
       its-number = ap (λ (o : Outcome). o.number) same ∙ sym says.number_is ∙ sym number
 
       pub does-refused : (n ≡ 0 → ⊥) → r ≡ replied_with reply lent.words lent.records
-          → Does (Make order words records) (machine lent arena ledger) r arena (ledger' ++ drop records ledger)
+          → Does (Ok (Make order words records)) (machine lent arena ledger) r arena (ledger' ++ drop records ledger)
       does-refused h e =
           let kept : ledger' ≡ take records ledger =
           ap (λ (s : State). s.ledger) says.state_is
@@ -100,7 +101,7 @@ module _ (order words records : ℕ) (lent : Lent) (arena ledger : List ℕ) (r 
           }
 
       pub does-make : n ≡ 0 → r ≡ replied_with reply words records → (cleared : List ℕ) → cleared ≡ replicate (length (take words arena)) 0
-          → Does (Make order words records) (machine lent arena ledger) r (cleared ++ drop words arena) (ledger' ++ drop records ledger)
+          → Does (Ok (Make order words records)) (machine lent arena ledger) r (cleared ++ drop words arena) (ledger' ++ drop records ledger)
       does-make h e cleared z =
           let zeros : cleared ≡ replicate words 0 = z ∙ ap (λ (k : ℕ). replicate k 0) whole in
           let it : state reply.heap cleared ledger' ≡ (made order words records (machine lent arena ledger)).state =

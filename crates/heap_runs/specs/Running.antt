@@ -1,11 +1,12 @@
 -- What the promises of the code say of a command that was run.
-use Rattle.std.specs.Prelude.{false, List, ◌≡◌, ℕ, take}
+use Rattle.std.specs.Prelude.{false, List, ◌≡◌, ℕ, take, Result}
 use Rattle.heap_core.specs.Deciding.{memory}
 use Rattle.heap_state.specs.Lists.{list}
 use Rattle.heap_blocks.specs.Sound.{is_sound}
 use Rattle.heap_state.specs.State.{State}
 use Rattle.heap_state.specs.declared.Reply.{Reply}
 use Rattle.heap_lines.specs.declared.Command.{Command}
+use Rattle.grammar.specs.declared.BadLine.{BadLine}
 use Rattle.heap_runs.specs.declared.Lent.{Lent}
 use Rattle.heap_runs.specs.declared.Printed.{Printed}
 use Rattle.heap_runs.specs.declared.Printed.TheVariants.{Reply as Printed·reply}
@@ -30,7 +31,7 @@ pub record Figured (s : State) (line : Printed) : Type 0 where
   pub long_is : by_node line ≡ false
 
 -- a command was run: what is held, every word, and the line are the definition's
-pub record Does (command : Command) (before : Machine) (r : Ran) (arena ledger : List ℕ) : Type 0 where
+pub record Does (command : Result Command BadLine) (before : Machine) (r : Ran) (arena ledger : List ℕ) : Type 0 where
   pub machine_is : machine r.lent arena ledger ≡ after command before
   pub line_is : line_of (take r.lent.words arena) r.line ≡ printed command before
   pub long_is : by_node r.line ≡ is_long command before

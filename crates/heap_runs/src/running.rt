@@ -1,5 +1,5 @@
 // A command run on the heap that is lent.
-ghost use Rattle.std.specs.Prelude.{◌≡◌};
+ghost use Rattle.std.specs.Prelude.{◌≡◌, Ok};
 ghost use Rattle.heap_state.specs.State.{state};
 ghost use Rattle.heap.specs.Told.{Told};
 ghost use Rattle.heap_runs.specs.Run.{machine, call_of, Fits};
@@ -8,6 +8,7 @@ ghost use Rattle.heap_runs.specs.Running.{Does, replied_with, Figured};
 use crate::setting::{bad_line, set};
 use crate::walking::list;
 use crate::{Lent, Printed, Ran};
+use grammar::BadLine;
 use heap_lines::{Call, Command};
 use heap_state::{Heap, Reply};
 
@@ -40,7 +41,7 @@ fn make(
     ledger: &mut [u64],
 ) -> Ran
     requires { Fits lent arena.old ledger.old }
-    ensures does { Does (Command.Make order words records) (machine lent arena.old ledger.old) result arena.new ledger.new }
+    ensures does { Does (Ok (Command.Make order words records)) (machine lent arena.old ledger.old) result arena.new ledger.new }
     ensures fits { Fits result.lent arena.new ledger.new }
 {
     if words > ARENA_WORDS {
@@ -62,7 +63,7 @@ fn make(
 
 fn remake(order: u64, lent: Lent, arena: &[u64], ledger: &mut [u64]) -> Ran
     requires { Fits lent arena.now ledger.old }
-    ensures does { Does (Command.Remake order) (machine lent arena.now ledger.old) result arena.now ledger.new }
+    ensures does { Does (Ok (Command.Remake order)) (machine lent arena.now ledger.old) result arena.now ledger.new }
     ensures fits { Fits result.lent arena.now ledger.new }
 {
     let n = lent.words;
@@ -86,7 +87,7 @@ fn called(call: Call, heap: Heap, arena: &mut [u64], ledger: &mut [u64]) -> Repl
 
 fn call(call: Call, lent: Lent, arena: &mut [u64], ledger: &mut [u64]) -> Ran
     requires { Fits lent arena.old ledger.old }
-    ensures does { Does (Command.Call call) (machine lent arena.old ledger.old) result arena.new ledger.new }
+    ensures does { Does (Ok (Command.Call call)) (machine lent arena.old ledger.old) result arena.new ledger.new }
     ensures fits { Fits result.lent arena.new ledger.new }
 {
     let n = lent.words;
@@ -107,7 +108,7 @@ fn figures(heap: Heap, arena: &[u64], ledger: &[u64]) -> Printed
 
 fn stats(lent: Lent, arena: &[u64], ledger: &[u64]) -> Ran
     requires { Fits lent arena.now ledger.now }
-    ensures does { Does (Command.Stats) (machine lent arena.now ledger.now) result arena.now ledger.now }
+    ensures does { Does (Ok Command.Stats) (machine lent arena.now ledger.now) result arena.now ledger.now }
     ensures fits { Fits result.lent arena.now ledger.now }
 {
     let n = lent.words;
@@ -120,18 +121,26 @@ fn stats(lent: Lent, arena: &[u64], ledger: &[u64]) -> Ran
     }
 }
 
-pub fn run(command: Command, lent: Lent, arena: &mut [u64], ledger: &mut [u64]) -> Ran
+// Runs the command that a line is.
+pub fn run(
+    command: Result<Command, BadLine>,
+    lent: Lent,
+    arena: &mut [u64],
+    ledger: &mut [u64],
+) -> Ran
     requires { Fits lent arena.old ledger.old }
-    ensures does { Does (command) (machine lent arena.old ledger.old) result arena.new ledger.new }
+    ensures does { Does command (machine lent arena.old ledger.old) result arena.new ledger.new }
     ensures fits { Fits result.lent arena.new ledger.new }
 {
     match command {
-        Command::Make(order, words, records) => make(order, words, records, lent, arena, ledger),
-        Command::Remake(order) => remake(order, lent, arena, ledger),
-        Command::Call(on) => call(on, lent, arena, ledger),
-        Command::List(class) => list(class, lent, arena, ledger),
-        Command::Stats => stats(lent, arena, ledger),
-        Command::Set(cell, value) => set(cell, value, lent, arena, ledger),
-        Command::Bad => bad_line(lent),
+        Ok(Command::Make(order, words, records)) => make(
+            order, words, records, lent, arena, ledger,
+        ),
+        Ok(Command::Remake(order)) => remake(order, lent, arena, ledger),
+        Ok(Command::Call(on)) => call(on, lent, arena, ledger),
+        Ok(Command::List(class)) => list(class, lent, arena, ledger),
+        Ok(Command::Stats) => stats(lent, arena, ledger),
+        Ok(Command::Set(cell, value)) => set(cell, value, lent, arena, ledger),
+        Err(BadLine) => bad_line(lent),
     }
 }

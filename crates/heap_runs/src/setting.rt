@@ -1,5 +1,5 @@
 // Words and fields put past every rule.
-ghost use Rattle.std.specs.Prelude.{cond, ◌≡◌, ◌≤◌, ltb, length, set};
+ghost use Rattle.std.specs.Prelude.{cond, ◌≡◌, ◌≤◌, ltb, length, set, Ok};
 ghost use Rattle.heap_runs.specs.Run.{machine, with_heap, heap_with, Fits};
 ghost use Rattle.heap_runs.specs.Running.{Does, ran_with};
 
@@ -55,7 +55,7 @@ fn set_word(at: u64, word: u64, most: usize, words: &mut [u64]) -> Printed
 // Puts what a line asks for, where it is within what is lent.
 pub(crate) fn set(cell: Cell, value: u64, lent: Lent, arena: &mut [u64], ledger: &mut [u64]) -> Ran
     requires { Fits lent arena.old ledger.old }
-    ensures does { Does (Command.Set cell value) (machine lent arena.old ledger.old) result arena.new ledger.new }
+    ensures does { Does (Ok (Command.Set cell value)) (machine lent arena.old ledger.old) result arena.new ledger.new }
     ensures fits { Fits result.lent arena.new ledger.new }
 {
     let mut heap = lent.heap;

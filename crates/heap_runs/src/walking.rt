@@ -1,5 +1,5 @@
 // The list of a class, read from its head on.
-ghost use Rattle.std.specs.Prelude.{◌≡◌, length};
+ghost use Rattle.std.specs.Prelude.{◌≡◌, length, Ok};
 ghost use Rattle.heap_state.specs.State.{state};
 ghost use Rattle.linked_list.specs.Links.{nodes};
 ghost use Rattle.heap_runs.specs.Run.{machine, Fits};
@@ -39,7 +39,7 @@ fn nodes_of(class: u64, heap: Heap, arena: &[u64], ledger: &[u64]) -> Printed
 
 pub(crate) fn list(class: u64, lent: Lent, arena: &[u64], ledger: &[u64]) -> Ran
     requires { Fits lent arena.now ledger.now }
-    ensures does { Does (Command.List class) (machine lent arena.now ledger.now) result arena.now ledger.now }
+    ensures does { Does (Ok (Command.List class)) (machine lent arena.now ledger.now) result arena.now ledger.now }
     ensures fits { Fits result.lent arena.now ledger.now }
 {
     let n = lent.words;
