@@ -1,15 +1,16 @@
 -- What a command of `calls` prints and leaves, from docs/RULES.md, "The lines of `calls`".
-use Rattle.std.specs.Prelude.{Bool, true, false, List, [], ◌∷◌, ℕ, eqb}
+use Rattle.std.specs.Prelude.{Bool, true, false, List, [], ◌∷◌, ℕ, eqb, Result, Ok, Err}
 use Rattle.answers.specs.Paper.{paper}
 use Rattle.frame.specs.Outcome as frame
 use Rattle.frame_core.specs.Carried.{Reply, Outcome}
 use Rattle.table.specs.Layout.{mark_of, class_of, start_of}
 use Rattle.frame_lines.specs.Command.{command_of}
+use Rattle.grammar.specs.declared.BadLine.{BadLine as NoCommand}
 use Rattle.lines.specs.Running as running
 use Rattle.texts.specs.Text.{bad_line}
 use Rattle.frame_lines.specs.Text.{reply_text, record_text}
 use Rattle.frame_lines.specs.declared.Command.{Command}
-use Rattle.frame_lines.specs.declared.Command.TheVariants.{Order, Add, Alloc, At, Free, Bad}
+use Rattle.frame_lines.specs.declared.Command.TheVariants.{Order, Add, Alloc, At, Free}
 use Rattle.calls.specs.declared.Printed.{Printed}
 use Rattle.calls.specs.declared.Printed.TheVariants.{Reply as Printed·reply, BadLine}
 
@@ -22,28 +23,28 @@ abbrev pub reply_line : Reply → Bool → List ℕ
 reply_line r valued = reply_text r.number (first r.values) valued
 
 -- "Its commands are `order N` (makes the table anew), `add S E`, `alloc N`, `at S N`, `free S N`"; a bad line leaves the table
-abbrev pub outcome_of : Command → List ℕ → Outcome
-outcome_of (Order n) ws = frame.making n ws
-outcome_of (Add s e) ws = frame.outcome (frame.Add s e) ws
-outcome_of (Alloc n) ws = frame.outcome (frame.Alloc n) ws
-outcome_of (At s n) ws = frame.outcome (frame.AllocAt s n) ws
-outcome_of (Free s n) ws = frame.outcome (frame.Dealloc s n) ws
-outcome_of Bad ws = record { reply = record { number = 0; values = [] }; words = ws }
+abbrev pub outcome_of : Result Command NoCommand → List ℕ → Outcome
+outcome_of (Ok (Order n)) ws = frame.making n ws
+outcome_of (Ok (Add s e)) ws = frame.outcome (frame.Add s e) ws
+outcome_of (Ok (Alloc n)) ws = frame.outcome (frame.Alloc n) ws
+outcome_of (Ok (At s n)) ws = frame.outcome (frame.AllocAt s n) ws
+outcome_of (Ok (Free s n)) ws = frame.outcome (frame.Dealloc s n) ws
+outcome_of (Err e) ws = record { reply = record { number = 0; values = [] }; words = ws }
 
 -- the words of the table afterwards
-abbrev pub words_after : Command → List ℕ → List ℕ
+abbrev pub words_after : Result Command NoCommand → List ℕ → List ℕ
 words_after c ws = (outcome_of c ws).words
 
 -- "It prints `ok`, a start, or `no` and the number": a start for the two grants; "else it prints `bad line`"
-abbrev pub line_for : Command → Reply → List ℕ
-line_for (Order n) r = reply_line r false
-line_for (Add s e) r = reply_line r false
-line_for (Alloc n) r = reply_line r true
-line_for (At s n) r = reply_line r true
-line_for (Free s n) r = reply_line r false
-line_for Bad r = bad_line
+abbrev pub line_for : Result Command NoCommand → Reply → List ℕ
+line_for (Ok (Order n)) r = reply_line r false
+line_for (Ok (Add s e)) r = reply_line r false
+line_for (Ok (Alloc n)) r = reply_line r true
+line_for (Ok (At s n)) r = reply_line r true
+line_for (Ok (Free s n)) r = reply_line r false
+line_for (Err e) r = bad_line
 
-abbrev pub printed : Command → List ℕ → List ℕ
+abbrev pub printed : Result Command NoCommand → List ℕ → List ℕ
 printed c ws = line_for c (outcome_of c ws).reply
 
 -- the line that the code has to print, from what it got

@@ -10,6 +10,7 @@ ghost use Rattle.calls.specs.Run.{printed, words_after, line_of, block_line, Too
 
 use answers::Answer;
 use frame_lines::Command;
+use grammar::BadLine;
 use std::io;
 use std::io::Read;
 use texts::Output;
@@ -29,18 +30,18 @@ struct Held {
     ghost in_bounds: { len ≤ 81 },
 }
 
-// Runs a command on the table.
-fn run(command: Command, t: &mut [u64]) -> Printed
+// Runs the command that a line is on the table.
+fn run(command: Result<Command, BadLine>, t: &mut [u64]) -> Printed
     ensures result_value { line_of result ≡ printed command t.old }
     ensures t_after { t.new ≡ words_after command t.old }
 {
     match command {
-        Command::Order(order) => Printed::Reply(frame::new(t, order), false),
-        Command::Add(start, end) => Printed::Reply(frame::add_frame(t, start, end), false),
-        Command::Alloc(count) => Printed::Reply(frame::alloc(t, count), true),
-        Command::At(start, count) => Printed::Reply(frame::alloc_at(t, start, count), true),
-        Command::Free(start, count) => Printed::Reply(frame::dealloc(t, start, count), false),
-        Command::Bad => Printed::BadLine,
+        Ok(Command::Order(order)) => Printed::Reply(frame::new(t, order), false),
+        Ok(Command::Add(start, end)) => Printed::Reply(frame::add_frame(t, start, end), false),
+        Ok(Command::Alloc(count)) => Printed::Reply(frame::alloc(t, count), true),
+        Ok(Command::At(start, count)) => Printed::Reply(frame::alloc_at(t, start, count), true),
+        Ok(Command::Free(start, count)) => Printed::Reply(frame::dealloc(t, start, count), false),
+        Err(BadLine) => Printed::BadLine,
     }
 }
 

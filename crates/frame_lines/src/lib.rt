@@ -17,5 +17,4 @@ pub enum Command {
     Alloc(u64),
     At(u64, u64),
     Free(u64, u64),
-    Bad,
 }

@@ -8,9 +8,9 @@ use native.Mathlib.Omega.{arith}
 use borrow.Author.Tests.{eqb-true, eqb-false}
 use lib.Dec.{eqb}
 use lib.ListN.{length}
+use Rattle.std.specs.Prelude.{Some}
 use Rattle.grammar.specs.Line.{is_digit, all_digits, value_on, number_of}
 use Rattle.texts.specs.Text.{digits, decimal}
-use Rattle.grammar.specs.declared.Number.TheVariants.{Value}
 use Rattle.grammar.proofs.Numerals.{digit-yes, is_number}
 
 value-more : (ds : List ℕ) (v d : ℕ) → value_on v (ds ++ (d ∷ [])) ≡ value_on v ds * 10 + (d - 48)
@@ -46,13 +46,13 @@ some-digits : (ds : List ℕ) (n : ℕ) → 0 < n → value_on 0 ds ≡ n → 0 
 some-digits [] n h e = absurd (omega (arith, e))
 some-digits (d ∷ ds) n h e = omega arith
 
-pub decimal-read : (n : ℕ) → n < 2 ^ 64 → number_of (decimal n) ≡ Value n
+pub decimal-read : (n : ℕ) → n < 2 ^ 64 → number_of (decimal n) ≡ Some n
 unfolding decimal
 decimal-read n h = by_cases (eqb n 0) refl
   where
-    by_cases : (t : Bool) → eqb n 0 ≡ t → number_of (cond t (48 ∷ []) (digits 20 n)) ≡ Value n
-    by_cases true e = is_number (48 ∷ []) (omega arith) refl (omega arith) ∙ ap Value (sym (eqb-true n 0 e))
+    by_cases : (t : Bool) → eqb n 0 ≡ t → number_of (cond t (48 ∷ []) (digits 20 n)) ≡ Some n
+    by_cases true e = is_number (48 ∷ []) (omega arith) refl (omega arith) ∙ ap Some (sym (eqb-true n 0 e))
     by_cases false e =
         let reads : Reads (digits 20 n) n = digits-read 20 n (omega arith) in
         let some : 0 < n = omega (arith, eqb-false n 0 e) in
-        is_number (digits 20 n) (some-digits (digits 20 n) n some reads.value) reads.are-digits (omega (arith, reads.value)) ∙ ap Value reads.value
+        is_number (digits 20 n) (some-digits (digits 20 n) n some reads.value) reads.are-digits (omega (arith, reads.value)) ∙ ap Some reads.value

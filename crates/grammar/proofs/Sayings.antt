@@ -8,12 +8,11 @@ use borrow.Author.Tests.{eqb-true, eq-eqb, le-leb, lt-leb, leb-true, leb-false}
 use lib.Dec.{eqb, leb}
 use lib.ListN.{length, take, length-append, length-take}
 use lib.Seq.{take_all}
+use Rattle.std.specs.Prelude.{Option, Some, None, Result, Ok, Err}
 use Rattle.grammar.specs.Line.{Numbers, all, not_all, before, numbers_of, said, bad, saying, line_of, same}
 use Rattle.grammar.specs.Next.{NextIs}
 use Rattle.lines.specs.Pieces.{pieces_after, PieceEnds}
-use Rattle.grammar.specs.declared.Next.{Next}
-use Rattle.grammar.specs.declared.Next.TheVariants.{End, Number, Wrong}
-use Rattle.grammar.specs.declared.Number.TheVariants.{Value}
+use Rattle.grammar.specs.declared.BadLine.{BadLine}
 
 -- ---- lines
 
@@ -53,19 +52,19 @@ module _ (bs : List ℕ) (n : ℕ) (short : length bs ≤ 80) (name : PieceEnds 
 
 abbrev pub before_all : List ℕ → Numbers → Numbers
 before_all [] x = x
-before_all (n ∷ ns) x = before (Value n) (before_all ns x)
+before_all (n ∷ ns) x = before (Some n) (before_all ns x)
 
 before-end : (ns : List ℕ) → before_all ns (all []) ≡ all ns
 before-end [] = refl
-before-end (n ∷ ns) = ap (before (Value n)) (before-end ns)
+before-end (n ∷ ns) = ap (before (Some n)) (before-end ns)
 
 before-wrong : (ns : List ℕ) → before_all ns not_all ≡ not_all
 before-wrong [] = refl
-before-wrong (n ∷ ns) = ap (before (Value n)) (before-wrong ns)
+before-wrong (n ∷ ns) = ap (before (Some n)) (before-wrong ns)
 
-before_more : (ns : List ℕ) (n : ℕ) (x : Numbers) → before_all ns (before (Value n) x) ≡ before_all (ns ++ (n ∷ [])) x
+before_more : (ns : List ℕ) (n : ℕ) (x : Numbers) → before_all ns (before (Some n) x) ≡ before_all (ns ++ (n ∷ [])) x
 before_more [] n x = refl
-before_more (m ∷ ns) n x = ap (before (Value m)) (before_more ns n x)
+before_more (m ∷ ns) n x = ap (before (Some m)) (before_more ns n x)
 
 -- from the name's end to a place stand these numbers
 pub record Reached (bs : List ℕ) (name : ℕ) (ns : List ℕ) (place : ℕ) : Type 0 where
@@ -75,21 +74,21 @@ pub record Reached (bs : List ℕ) (name : ℕ) (ns : List ℕ) (place : ℕ) : 
 pub at_name : (bs : List ℕ) (name : ℕ) → Reached bs name [] name
 at_name bs name = record { numbers = refl; count = omega arith }
 
-module _ (bs : List ℕ) (name : ℕ) {ns : List ℕ} {place : ℕ} (here : Reached bs name ns place) (found : Next) (is : NextIs bs place found) where
-  pub one_more : {n end : ℕ} → found ≡ Number n end → Reached bs name (ns ++ (n ∷ [])) end
+module _ (bs : List ℕ) (name : ℕ) {ns : List ℕ} {place : ℕ} (here : Reached bs name ns place) (found : Result (Option (ℕ × ℕ)) BadLine) (is : NextIs bs place found) where
+  pub one_more : {n end : ℕ} → found ≡ Ok (Some (n, end)) → Reached bs name (ns ++ (n ∷ [])) end
   one_more {n} {end} e =
-      let f : NextIs bs place (Number n end) = subst (NextIs bs place) e is in
+      let f : NextIs bs place (Ok (Some (n, end))) = subst (NextIs bs place) e is in
       record {
         numbers = here.numbers ∙ ap (before_all ns) f.0 ∙ before_more ns n (numbers_of (pieces_after 32 bs end));
         count = omega (arith, here.count, f.1, length-append ns (n ∷ []));
       }
 
-  pub no_more : length bs ≤ 80 → PieceEnds 32 bs name → length ns ≤ 3 → found ≡ End → said (take name bs) ns ≡ line_of bs
+  pub no_more : length bs ≤ 80 → PieceEnds 32 bs name → length ns ≤ 3 → found ≡ Ok None → said (take name bs) ns ≡ line_of bs
   no_more short ends few e =
       let f : pieces_after 32 bs place ≡ [] = subst (NextIs bs place) e is in
       numbers-said bs name short ends ns (here.numbers ∙ ap (λ (ps : List (List ℕ)). before_all ns (numbers_of ps)) f ∙ before-end ns) (omega (arith, here.count, ap length f))
 
-  pub wrong_word : length bs ≤ 80 → PieceEnds 32 bs name → found ≡ Wrong → bad ≡ line_of bs
+  pub wrong_word : {e : BadLine} → length bs ≤ 80 → PieceEnds 32 bs name → found ≡ Err e → bad ≡ line_of bs
   wrong_word short ends e =
       no_number bs name short ends (here.numbers ∙ ap (before_all ns) (subst (NextIs bs place) e is) ∙ before-wrong ns)
 

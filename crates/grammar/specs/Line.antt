@@ -1,10 +1,9 @@
 -- A line, from docs/RULES.md, "The lines of `calls`": "one space between words, decimal numbers below 2^64, at most 80 bytes".
-use Rattle.std.specs.Prelude.{Bool, true, false, cond, ◌&&◌, List, [], ◌∷◌, ℕ, ◌+◌, ◌-◌, ◌*◌, ◌^◌, eqb, leb, ltb, length, take}
+use Rattle.std.specs.Prelude.{Bool, true, false, cond, ◌&&◌, List, [], ◌∷◌, ℕ, ◌+◌, ◌-◌, ◌*◌, ◌^◌, eqb, leb, ltb, length, take, Option, Some, None, Result, Ok, Err}
 use Rattle.lines.specs.Pieces.{cut}
-use Rattle.grammar.specs.declared.Number.{Number}
-use Rattle.grammar.specs.declared.Number.TheVariants.{Value, NotANumber}
+use Rattle.grammar.specs.declared.BadLine.{BadLine}
 use Rattle.grammar.specs.declared.Said.{Said}
-use Rattle.grammar.specs.declared.Said.TheVariants.{Name, One, Two, Three, Bad}
+use Rattle.grammar.specs.declared.Said.TheVariants.{Name, One, Two, Three}
 
 -- ---- "decimal numbers below 2^64"
 
@@ -22,8 +21,8 @@ value_on v [] = v
 value_on v (b ∷ bs) = value_on (v * 10 + (b - 48)) bs
 
 -- a word of digits alone, one or more; zeros may lead
-unfoldable pub number_of : List ℕ → Number
-number_of w = cond (ltb 0 (length w) && all_digits w && ltb (value_on 0 w) (2 ^ 64)) (Value (value_on 0 w)) NotANumber
+unfoldable pub number_of : List ℕ → Option ℕ
+number_of w = cond (ltb 0 (length w) && all_digits w && ltb (value_on 0 w) (2 ^ 64)) (Some (value_on 0 w)) None
 
 -- ---- a name, and the numbers after it
 
@@ -32,10 +31,10 @@ pub data Numbers : Type 0 where
   all : List ℕ → Numbers
   not_all : Numbers
 
-abbrev pub before : Number → Numbers → Numbers
-before (Value n) (all ns) = all (n ∷ ns)
-before (Value n) not_all = not_all
-before NotANumber ns = not_all
+abbrev pub before : Option ℕ → Numbers → Numbers
+before (Some n) (all ns) = all (n ∷ ns)
+before (Some n) not_all = not_all
+before None ns = not_all
 
 abbrev pub numbers_of : List (List ℕ) → Numbers
 numbers_of [] = all []
@@ -60,19 +59,19 @@ line_of bs = cond (leb (length bs) 80) (of_words (cut 32 bs)) bad
 
 -- ---- what the code answers, on paper: it gives the name by its length
 
-abbrev pub line_said : List ℕ → Said → Line
-line_said bs (Name n) = said (take n bs) []
-line_said bs (One n a) = said (take n bs) (a ∷ [])
-line_said bs (Two n a b) = said (take n bs) (a ∷ b ∷ [])
-line_said bs (Three n a b c) = said (take n bs) (a ∷ b ∷ c ∷ [])
-line_said bs Bad = bad
+abbrev pub line_said : List ℕ → Result Said BadLine → Line
+line_said bs (Ok (Name n)) = said (take n bs) []
+line_said bs (Ok (One n a)) = said (take n bs) (a ∷ [])
+line_said bs (Ok (Two n a b)) = said (take n bs) (a ∷ b ∷ [])
+line_said bs (Ok (Three n a b c)) = said (take n bs) (a ∷ b ∷ c ∷ [])
+line_said bs (Err e) = bad
 
-abbrev pub name_length : Said → ℕ
-name_length (Name n) = n
-name_length (One n a) = n
-name_length (Two n a b) = n
-name_length (Three n a b c) = n
-name_length Bad = 0
+abbrev pub name_length : Result Said BadLine → ℕ
+name_length (Ok (Name n)) = n
+name_length (Ok (One n a)) = n
+name_length (Ok (Two n a b)) = n
+name_length (Ok (Three n a b c)) = n
+name_length (Err e) = 0
 
 -- the same bytes
 abbrev pub same : List ℕ → List ℕ → Bool

@@ -8,13 +8,6 @@ mod saying;
 
 pub use saying::{named, say};
 
-// A word as a number.
-#[derive(Clone, Copy)]
-enum Number {
-    Value(u64),
-    NotANumber,
-}
-
 // A line as its words say it: how many bytes its name has, and its numbers.
 #[derive(Clone, Copy)]
 pub enum Said {
@@ -22,13 +15,8 @@ pub enum Said {
     One(usize, u64),
     Two(usize, u64, u64),
     Three(usize, u64, u64, u64),
-    Bad,
 }
 
-// What stands after a word of a line: the line's end, a number that ends at a place, or a word that is no number.
-#[derive(Clone, Copy)]
-enum Next {
-    End,
-    Number(u64, usize),
-    Wrong,
-}
+// A bad line: too long, with a word after its name that is no number, with more than three numbers, or no command of a program.
+#[derive(Debug, Clone, Copy, PartialEq, Eq)]
+pub struct BadLine;

@@ -4,50 +4,44 @@ ghost use Rattle.grammar.specs.Line.{line_of, line_said, name_length, same};
 ghost use Rattle.grammar.specs.Next.{NextIs};
 
 use crate::numbers::number;
-use crate::{Next, Number, Said};
+use crate::{BadLine, Said};
 use lines::piece_end;
 
-// What follows the word that ends at `at`, where a space stands or the line ends.
-fn next(line: &[u8], at: usize) -> Next
+// What follows the word that ends at `at`, where a space stands or the line ends: nothing, or a number and the place where it ends.
+fn next(line: &[u8], at: usize) -> Result<Option<(u64, usize)>, BadLine>
     ensures { NextIs line.now at result }
 {
     if line.len() <= at {
-        return Next::End;
+        return Ok(None);
     }
     let from = at + 1;
     let rest = &line[from..];
     let n = piece_end(rest, b' ');
-    match number(&rest[..n]) {
-        Number::Value(v) => Next::Number(v, from + n),
-        Number::NotANumber => Next::Wrong,
-    }
+    let value = number(&rest[..n]).ok_or(BadLine)?;
+    Ok(Some((value, from + n)))
 }
 
 // The name's length and the numbers of a line.
-pub fn say(line: &[u8]) -> Said
+pub fn say(line: &[u8]) -> Result<Said, BadLine>
     ensures result_value { line_said line.now result ≡ line_of line.now }
     ensures result_in_bounds { name_length result ≤ length line.now }
 {
     if 80 < line.len() {
-        return Said::Bad;
+        return Err(BadLine);
     }
     let name = piece_end(line, b' ');
-    match next(line, name) {
-        Next::End => Said::Name(name),
-        Next::Wrong => Said::Bad,
-        Next::Number(a, first) => match next(line, first) {
-            Next::End => Said::One(name, a),
-            Next::Wrong => Said::Bad,
-            Next::Number(b, second) => match next(line, second) {
-                Next::End => Said::Two(name, a, b),
-                Next::Wrong => Said::Bad,
-                Next::Number(c, third) => match next(line, third) {
-                    Next::End => Said::Three(name, a, b, c),
-                    Next::Wrong => Said::Bad,
-                    Next::Number(_, _) => Said::Bad,
-                },
-            },
-        },
+    let Some((a, first)) = next(line, name)? else {
+        return Ok(Said::Name(name));
+    };
+    let Some((b, second)) = next(line, first)? else {
+        return Ok(Said::One(name, a));
+    };
+    let Some((c, third)) = next(line, second)? else {
+        return Ok(Said::Two(name, a, b));
+    };
+    match next(line, third)? {
+        None => Ok(Said::Three(name, a, b, c)),
+        Some(_) => Err(BadLine),
     }
 }
 

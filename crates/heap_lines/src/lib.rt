@@ -38,5 +38,4 @@ pub enum Command {
     List(u64),
     Stats,
     Set(Cell, u64),
-    Bad,
 }

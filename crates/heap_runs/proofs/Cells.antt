@@ -1,4 +1,6 @@
 -- A word or a field put past every rule, where it is within what is lent.
+use Rattle.std.specs.Prelude.{Ok, Err}
+use Rattle.grammar.specs.declared.BadLine.{BadLine as NoCommand}
 use mathlib.Core.Bool.{Bool, true, false, cond}
 use mathlib.Core.List.{List}
 use mathlib.Core.Path.{◌≡◌, refl, ap, ◌∙◌}
@@ -8,7 +10,7 @@ use lib.ListN.{take, set}
 use Rattle.heap_state.specs.declared.Heap.{Heap}
 use Rattle.heap_lines.specs.declared.Cell.{Cell}
 use Rattle.heap_lines.specs.declared.Cell.TheVariants.{Arena, Ledger, Head}
-use Rattle.heap_lines.specs.declared.Command.TheVariants.{Set as Setting, Bad}
+use Rattle.heap_lines.specs.declared.Command.TheVariants.{Set as Setting}
 use Rattle.heap_runs.specs.declared.Printed.{Printed}
 use Rattle.heap_runs.specs.declared.Printed.TheVariants.{Set, BadLine}
 use Rattle.heap_runs.specs.Run.{Machine, machine, with_heap, inside, heap_with, with_cell, after}
@@ -25,7 +27,7 @@ short true = refl
 short false = refl
 
 pub does-set : (cell : Cell) (value : ℕ) (m left : Machine) (line : Printed) → left ≡ cond (inside cell m.lent) (with_cell cell value m) m → line ≡ cond (inside cell m.lent) Set BadLine
-    → Does (Setting cell value) m left line
+    → Does (Ok (Setting cell value)) m left line
 unfolding after printed
 does-set cell value m left line p q =
     record {
@@ -36,7 +38,7 @@ does-set cell value m left line p q =
 
 -- a word of one of the two
 pub does-arena : (i value : ℕ) (m : Machine) (line : Printed) (arena : List ℕ) → line ≡ cond (ltb i m.lent.words) Set BadLine
-    → arena ≡ cond (ltb i m.lent.words) (set m.arena i value) m.arena → Does (Setting (Arena i) value) m (machine m.lent arena m.ledger) line
+    → arena ≡ cond (ltb i m.lent.words) (set m.arena i value) m.arena → Does (Ok (Setting (Arena i) value)) m (machine m.lent arena m.ledger) line
 does-arena i value m line arena q p =
     does-set (Arena i) value m (machine m.lent arena m.ledger) line (ap (λ (a : List ℕ). machine m.lent a m.ledger) p ∙ by_cases (ltb i m.lent.words)) q
   where
@@ -45,7 +47,7 @@ does-arena i value m line arena q p =
     by_cases false = refl
 
 pub does-ledger : (i value : ℕ) (m : Machine) (line : Printed) (ledger : List ℕ) → line ≡ cond (ltb i m.lent.records) Set BadLine
-    → ledger ≡ cond (ltb i m.lent.records) (set m.ledger i value) m.ledger → Does (Setting (Ledger i) value) m (machine m.lent m.arena ledger) line
+    → ledger ≡ cond (ltb i m.lent.records) (set m.ledger i value) m.ledger → Does (Ok (Setting (Ledger i) value)) m (machine m.lent m.arena ledger) line
 does-ledger i value m line ledger q p =
     does-set (Ledger i) value m (machine m.lent m.arena ledger) line (ap (machine m.lent m.arena) p ∙ by_cases (ltb i m.lent.records)) q
   where
@@ -54,7 +56,7 @@ does-ledger i value m line ledger q p =
     by_cases false = refl
 
 pub does-head : (k value : ℕ) (m : Machine) (line : Printed) (heap : Heap) → line ≡ cond (ltb k 33) Set BadLine
-    → heap ≡ cond (ltb k 33) (heap_with (Head k) value m.lent.heap) m.lent.heap → Does (Setting (Head k) value) m (machine (with_heap heap m.lent) m.arena m.ledger) line
+    → heap ≡ cond (ltb k 33) (heap_with (Head k) value m.lent.heap) m.lent.heap → Does (Ok (Setting (Head k) value)) m (machine (with_heap heap m.lent) m.arena m.ledger) line
 does-head k value m line heap q p =
     does-set (Head k) value m (machine (with_heap heap m.lent) m.arena m.ledger) line (ap (λ (h : Heap). machine (with_heap h m.lent) m.arena m.ledger) p ∙ by_cases (ltb k 33)) q
   where
@@ -63,6 +65,6 @@ does-head k value m line heap q p =
     by_cases true = refl
     by_cases false = refl
 
-pub does-bad : (m : Machine) → Does Bad m m BadLine
+pub does-bad : (x : NoCommand) (m : Machine) → Does (Err x) m m BadLine
 unfolding after printed
-does-bad m = record { machine_is = refl; line_is = refl; long_is = refl }
+does-bad x m = record { machine_is = refl; line_is = refl; long_is = refl }

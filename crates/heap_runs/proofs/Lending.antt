@@ -1,4 +1,5 @@
 -- Calls over the words that are lent: what they leave of the whole arena and ledger.
+use Rattle.std.specs.Prelude.{Ok}
 use mathlib.Core.Bool.{Bool, true, false}
 use mathlib.Core.List.{List, ◌∷◌, ◌++◌}
 use mathlib.Core.Path.{◌≡◌, refl, sym, ap, ◌∙◌}
@@ -40,7 +41,7 @@ module _ (lent : Lent) (arena ledger : List ℕ) (reply : Reply) where
   pub does_call : (call : Call) (arena' ledger' : List ℕ)
       → Told (call_of call) (state lent.heap (take lent.words arena) (take lent.records ledger)) reply (take lent.words arena') (take lent.records ledger')
       → drop lent.words arena' ≡ drop lent.words arena → drop lent.records ledger' ≡ drop lent.records ledger
-      → Does (OnHeap call) (machine lent arena ledger) (machine (with_heap reply.heap lent) arena' ledger') (Printed·reply reply.answer)
+      → Does (Ok (OnHeap call)) (machine lent arena ledger) (machine (with_heap reply.heap lent) arena' ledger') (Printed·reply reply.answer)
   unfolding after printed
   does_call call arena' ledger' says p q =
       record {
@@ -53,7 +54,7 @@ module _ (lent : Lent) (arena ledger : List ℕ) (reply : Reply) where
 
   pub does-remake : (order : ℕ) (ledger' : List ℕ) → Says (remade order (machine lent arena ledger)) reply (take lent.words arena) (take lent.records ledger')
       → drop lent.records ledger' ≡ drop lent.records ledger
-      → Does (Remake order) (machine lent arena ledger) (machine (with_heap reply.heap lent) arena ledger') (Printed·reply reply.answer)
+      → Does (Ok (Remake order)) (machine lent arena ledger) (machine (with_heap reply.heap lent) arena ledger') (Printed·reply reply.answer)
   unfolding after printed
   does-remake order ledger' says q =
       record {
@@ -66,11 +67,11 @@ module _ (lent : Lent) (arena ledger : List ℕ) (reply : Reply) where
 
 -- ---- reading alone
 
-pub does-list : (class : ℕ) (m : Machine) (line : Printed) → Lists class (lent_state m) line → Does (ListOf class) m m line
+pub does-list : (class : ℕ) (m : Machine) (line : Printed) → Lists class (lent_state m) line → Does (Ok (ListOf class)) m m line
 unfolding after printed
 does-list class m line l = record { machine_is = refl; line_is = l.line_is; long_is = l.long_is }
 
-pub does-stats : (m : Machine) (line : Printed) → Figured (lent_state m) line → Does Stats m m line
+pub does-stats : (m : Machine) (line : Printed) → Figured (lent_state m) line → Does (Ok Stats) m m line
 unfolding after printed
 does-stats m line l = record { machine_is = refl; line_is = l.line_is; long_is = l.long_is }
 

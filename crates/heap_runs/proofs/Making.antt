@@ -6,6 +6,7 @@ use Prim.Native.Nat.{ℕ, ◌<◌, ◌≤◌}
 use borrow.Author.Tests.{eq-eqb, ne_eqb, lt-ltb, le-ltb}
 use lib.Dec.{eqb, ltb}
 use lib.ListN.{length, take, drop, replicate, length-replicate, take-append-drop}
+use Rattle.std.specs.Prelude.{Ok}
 use Rattle.answers.specs.Paper.{paper}
 use Rattle.heap_state.specs.State.{lengthsb, orderb, State, state, Outcome, Says, made_if, making}
 use Rattle.heap_state.specs.declared.Heap.{Heap}
@@ -45,7 +46,7 @@ making-keeps order a l h = refused-keeps (orderb order) (lengthsb (length a) (le
 
 -- ---- the command
 module _ (order words records : ℕ) (lent : Lent) (arena ledger : List ℕ) where
-  pub does-too-many : too_many words records ≡ true → Does (Make order words records) (machine lent arena ledger) (machine lent arena ledger) BadLine
+  pub does-too-many : too_many words records ≡ true → Does (Ok (Make order words records)) (machine lent arena ledger) (machine lent arena ledger) BadLine
   unfolding after printed
   does-too-many h =
       record {
@@ -62,7 +63,7 @@ module _ (order words records : ℕ) (lent : Lent) (arena ledger : List ℕ) whe
       same : made order words records (machine lent arena ledger) ≡ over (replicate words 0) (making order (take words arena) (take records ledger))
       same = making-over order (replicate words 0) (take words arena) (take records ledger) (length-replicate words 0 ∙ sym long)
 
-      line : (arena' : List ℕ) → line_of arena' (Printed·reply reply.answer) ≡ printed (Make order words records) (machine lent arena ledger)
+      line : (arena' : List ℕ) → line_of arena' (Printed·reply reply.answer) ≡ printed (Ok (Make order words records)) (machine lent arena ledger)
       unfolding printed
       line arena' =
           reply-line (making order (take words arena) (take records ledger)) reply (take words arena) (take records ledger') says
@@ -70,7 +71,7 @@ module _ (order words records : ℕ) (lent : Lent) (arena ledger : List ℕ) whe
           ∙ sym (ap (λ (t : Bool). cond t bad_line (outcome_text (made order words records (machine lent arena ledger)))) few)
 
       left : (t : Bool) → eqb (made order words records (machine lent arena ledger)).number 0 ≡ t
-          → after (Make order words records) (machine lent arena ledger)
+          → after (Ok (Make order words records)) (machine lent arena ledger)
           ≡ cond t (lending words records (made order words records (machine lent arena ledger)).state (machine lent arena ledger)) (machine (with_heap (made order words records (machine lent arena ledger)).state.heap lent) arena ledger)
       unfolding after
       left t e =
@@ -80,7 +81,7 @@ module _ (order words records : ℕ) (lent : Lent) (arena ledger : List ℕ) whe
       its-number : (made order words records (machine lent arena ledger)).number ≡ n
       its-number = ap (λ (o : Outcome). o.number) same ∙ sym says.number_is ∙ sym number
 
-      pub does-refused : (n ≡ 0 → ⊥) → Does (Make order words records) (machine lent arena ledger) (machine (with_heap reply.heap lent) arena ledger') (Printed·reply reply.answer)
+      pub does-refused : (n ≡ 0 → ⊥) → Does (Ok (Make order words records)) (machine lent arena ledger) (machine (with_heap reply.heap lent) arena ledger') (Printed·reply reply.answer)
       does-refused h =
           let kept : take records ledger' ≡ take records ledger =
           ap (λ (s : State). s.ledger) says.state_is
@@ -98,7 +99,7 @@ module _ (order words records : ℕ) (lent : Lent) (arena ledger : List ℕ) whe
           }
 
       pub does-make : n ≡ 0 → (arena' : List ℕ) → arena' ≡ replicate words 0 ++ drop words arena
-          → Does (Make order words records) (machine lent arena ledger) (machine (record { heap = reply.heap; words = words; records = records }) arena' ledger') (Printed·reply reply.answer)
+          → Does (Ok (Make order words records)) (machine lent arena ledger) (machine (record { heap = reply.heap; words = words; records = records }) arena' ledger') (Printed·reply reply.answer)
       does-make h arena' z =
           let it : state reply.heap (replicate words 0) (take records ledger') ≡ (made order words records (machine lent arena ledger)).state =
           ap (λ (s : State). state s.heap (replicate words 0) s.ledger) says.state_is

@@ -1,5 +1,5 @@
 -- What a command leaves, from docs/RULES.md, "The lines of `heap_calls`".
-use Rattle.std.specs.Prelude.{Bool, true, cond, ◌||◌, List, ◌++◌, ℕ, eqb, ltb, take, drop, set, replicate}
+use Rattle.std.specs.Prelude.{Bool, true, cond, ◌||◌, List, ◌++◌, ℕ, eqb, ltb, take, drop, set, replicate, Result, Ok, Err}
 use Rattle.heap_state.specs.State.{State, state, Outcome, fresh_heap, making}
 use Rattle.heap_state.specs.declared.Heap.{Heap}
 use Rattle.heap.specs.Outcome as heap
@@ -8,7 +8,8 @@ use Rattle.heap_lines.specs.declared.Call.TheVariants.{Add, Init, Alloc, Free, Z
 use Rattle.heap_lines.specs.declared.Cell.{Cell}
 use Rattle.heap_lines.specs.declared.Cell.TheVariants.{Arena, Ledger, Head, Count, User, Allocated, Total, Order}
 use Rattle.heap_lines.specs.declared.Command.{Command}
-use Rattle.heap_lines.specs.declared.Command.TheVariants.{Make, Remake, Call as OnHeap, List as ListOf, Stats, Set, Bad}
+use Rattle.heap_lines.specs.declared.Command.TheVariants.{Make, Remake, Call as OnHeap, List as ListOf, Stats, Set}
+use Rattle.grammar.specs.declared.BadLine.{BadLine}
 use Rattle.heap_runs.specs.declared.Lent.{Lent}
 
 -- what the program holds: the record with how much is lent, and every word of its arena and of its ledger
@@ -111,11 +112,11 @@ abbrev pub with_cell : Cell → ℕ → Machine → Machine
 with_cell cell v m = machine (with_heap (heap_with cell v m.lent.heap) m.lent) (arena_with cell v m.arena) (ledger_with cell v m.ledger)
 
 -- ---- all that a command leaves
-unfoldable pub after : Command → Machine → Machine
-after (Make order words records) m = cond (too_many words records) m (after_making words records (made order words records m) m)
-after (Remake order) m = relent (remade order m).state m
-after (OnHeap call) m = relent (heap.outcome (call_of call) (lent_state m)).state m
-after (ListOf class) m = m
-after Stats m = m
-after (Set cell value) m = cond (inside cell m.lent) (with_cell cell value m) m
-after Bad m = m
+unfoldable pub after : Result Command BadLine → Machine → Machine
+after (Ok (Make order words records)) m = cond (too_many words records) m (after_making words records (made order words records m) m)
+after (Ok (Remake order)) m = relent (remade order m).state m
+after (Ok (OnHeap call)) m = relent (heap.outcome (call_of call) (lent_state m)).state m
+after (Ok (ListOf class)) m = m
+after (Ok Stats) m = m
+after (Ok (Set cell value)) m = cond (inside cell m.lent) (with_cell cell value m) m
+after (Err e) m = m

@@ -1,9 +1,10 @@
 -- What the promises of the code say of a command that was run.
-use Rattle.std.specs.Prelude.{false, ◌≡◌, ℕ, take}
+use Rattle.std.specs.Prelude.{false, ◌≡◌, ℕ, take, Result}
 use Rattle.heap_core.specs.Deciding.{memory}
 use Rattle.heap_state.specs.Lists.{list}
 use Rattle.heap_blocks.specs.Sound.{is_sound}
 use Rattle.heap_state.specs.State.{State}
+use Rattle.grammar.specs.declared.BadLine.{BadLine}
 use Rattle.heap_lines.specs.declared.Command.{Command}
 use Rattle.heap_runs.specs.declared.Machine.{Machine as Memory}
 use Rattle.heap_runs.specs.declared.Printed.{Printed}
@@ -24,7 +25,7 @@ pub record Figured (s : State) (line : Printed) : Type 0 where
   pub long_is : by_node line ≡ false
 
 -- a command was run: what is held, every word, and the line are the definition's
-pub record Does (command : Command) (before left : Machine) (line : Printed) : Type 0 where
+pub record Does (command : Result Command BadLine) (before left : Machine) (line : Printed) : Type 0 where
   pub machine_is : left ≡ after command before
   pub line_is : line_of (take left.lent.words left.arena) line ≡ printed command before
   pub long_is : by_node line ≡ is_long command before

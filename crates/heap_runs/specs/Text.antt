@@ -1,5 +1,5 @@
 -- What a command prints, from docs/RULES.md, "The lines of `heap_calls`".
-use Rattle.std.specs.Prelude.{Bool, true, false, cond, List, [], ◌∷◌, ◌++◌, ℕ, length}
+use Rattle.std.specs.Prelude.{Bool, true, false, cond, List, [], ◌∷◌, ◌++◌, ℕ, length, Result, Ok, Err}
 use Rattle.answers.specs.Paper.{paper}
 use Rattle.linked_list.specs.Links.{nodes}
 use Rattle.texts.specs.Bytes.{bytes}
@@ -10,7 +10,8 @@ use Rattle.heap_blocks.specs.Sound.{is_sound}
 use Rattle.heap_core.specs.Deciding.{memory}
 use Rattle.heap.specs.Outcome.{outcome, StatsAllocUser, StatsAllocActual, StatsTotalBytes}
 use Rattle.heap_lines.specs.declared.Command.{Command}
-use Rattle.heap_lines.specs.declared.Command.TheVariants.{Make, Remake, Call, List as ListOf, Stats, Set as Setting, Bad}
+use Rattle.heap_lines.specs.declared.Command.TheVariants.{Make, Remake, Call, List as ListOf, Stats, Set as Setting}
+use Rattle.grammar.specs.declared.BadLine.{BadLine as NoCommand}
 use Rattle.heap_runs.specs.declared.Printed.{Printed}
 use Rattle.heap_runs.specs.declared.Printed.TheVariants.{Reply, Figures, Nodes, Set, BadLine}
 use Rattle.heap_runs.specs.Run.{Machine, lent_state, too_many, made, remade, call_of, inside}
@@ -47,14 +48,14 @@ listed false ns = reply_text 3 0
 abbrev pub figured : State → List ℕ
 figured s = figures_text (outcome StatsAllocUser s).number (outcome StatsAllocUser s).value (outcome StatsAllocActual s).value (outcome StatsTotalBytes s).value
 
-unfoldable pub printed : Command → Machine → List ℕ
-printed (Make order words records) m = cond (too_many words records) bad_line (outcome_text (made order words records m))
-printed (Remake order) m = outcome_text (remade order m)
-printed (Call call) m = outcome_text (outcome (call_of call) (lent_state m))
-printed (ListOf class) m = listed (is_sound (lent_state m)) (list class (memory (lent_state m)))
-printed Stats m = figured (lent_state m)
-printed (Setting cell value) m = cond (inside cell m.lent) set_line bad_line
-printed Bad m = bad_line
+unfoldable pub printed : Result Command NoCommand → Machine → List ℕ
+printed (Ok (Make order words records)) m = cond (too_many words records) bad_line (outcome_text (made order words records m))
+printed (Ok (Remake order)) m = outcome_text (remade order m)
+printed (Ok (Call call)) m = outcome_text (outcome (call_of call) (lent_state m))
+printed (Ok (ListOf class)) m = listed (is_sound (lent_state m)) (list class (memory (lent_state m)))
+printed (Ok Stats) m = figured (lent_state m)
+printed (Ok (Setting cell value)) m = cond (inside cell m.lent) set_line bad_line
+printed (Err e) m = bad_line
 
 -- ---- the line that the code has to print, from what it got and the arena that is lent
 abbrev pub line_of : List ℕ → Printed → List ℕ
@@ -72,11 +73,11 @@ by_node (Nodes head count) = true
 by_node Set = false
 by_node BadLine = false
 
-abbrev pub is_long : Command → Machine → Bool
-is_long (Make order words records) m = false
-is_long (Remake order) m = false
-is_long (Call call) m = false
-is_long (ListOf class) m = is_sound (lent_state m)
-is_long Stats m = false
-is_long (Setting cell value) m = false
-is_long Bad m = false
+abbrev pub is_long : Result Command NoCommand → Machine → Bool
+is_long (Ok (Make order words records)) m = false
+is_long (Ok (Remake order)) m = false
+is_long (Ok (Call call)) m = false
+is_long (Ok (ListOf class)) m = is_sound (lent_state m)
+is_long (Ok Stats) m = false
+is_long (Ok (Setting cell value)) m = false
+is_long (Err e) m = false

@@ -1,11 +1,12 @@
 // A command run on the heap that is lent.
-ghost use Rattle.std.specs.Prelude.{◌≡◌, ◌≤◌, ◌++◌, length, take, drop, replicate};
+ghost use Rattle.std.specs.Prelude.{◌≡◌, ◌≤◌, ◌++◌, length, take, drop, replicate, Ok};
 ghost use Rattle.heap_state.specs.State.{state, Says, making};
 ghost use Rattle.heap.specs.Told.{Told};
 ghost use Rattle.heap_runs.specs.Run.{call_of};
 ghost use Rattle.heap_runs.specs.Running.{machine_of, Does, Figured};
 
 use crate::{Lent, Machine, Printed};
+use grammar::BadLine;
 use heap_lines::{Call, Command};
 use heap_state::{Heap, Reply};
 
@@ -64,24 +65,24 @@ fn figures(heap: Heap, arena: &[u64], ledger: &[u64]) -> Printed
 }
 
 impl Machine {
-    // Runs a command, and tells what is to be printed.
-    pub fn run(&mut self, command: Command) -> Printed
+    // Runs the command that a line is, and tells what is to be printed.
+    pub fn run(&mut self, command: Result<Command, BadLine>) -> Printed
         ensures { Does command (machine_of self.old) (machine_of self.new) result }
     {
         match command {
-            Command::Make(order, words, records) => self.make(order, words, records),
-            Command::Remake(order) => self.remake(order),
-            Command::Call(on) => self.call(on),
-            Command::List(class) => self.list(class),
-            Command::Stats => self.stats(),
-            Command::Set(cell, value) => self.set(cell, value),
-            Command::Bad => Printed::BadLine,
+            Ok(Command::Make(order, words, records)) => self.make(order, words, records),
+            Ok(Command::Remake(order)) => self.remake(order),
+            Ok(Command::Call(on)) => self.call(on),
+            Ok(Command::List(class)) => self.list(class),
+            Ok(Command::Stats) => self.stats(),
+            Ok(Command::Set(cell, value)) => self.set(cell, value),
+            Err(BadLine) => Printed::BadLine,
         }
     }
 
     // Makes a heap over the first words of both; the words are cleared only once it is made, so that nothing is lost where it is refused.
     fn make(&mut self, order: u64, words: u64, records: u64) -> Printed
-        ensures { Does (Command.Make order words records) (machine_of self.old) (machine_of self.new) result }
+        ensures { Does (Ok (Command.Make order words records)) (machine_of self.old) (machine_of self.new) result }
     {
         if words > ARENA_WORDS {
             return Printed::BadLine;
@@ -104,7 +105,7 @@ impl Machine {
     }
 
     fn remake(&mut self, order: u64) -> Printed
-        ensures { Does (Command.Remake order) (machine_of self.old) (machine_of self.new) result }
+        ensures { Does (Ok (Command.Remake order)) (machine_of self.old) (machine_of self.new) result }
     {
         let n = self.lent.words;
         let k = self.lent.records;
@@ -114,7 +115,7 @@ impl Machine {
     }
 
     fn call(&mut self, call: Call) -> Printed
-        ensures { Does (Command.Call call) (machine_of self.old) (machine_of self.new) result }
+        ensures { Does (Ok (Command.Call call)) (machine_of self.old) (machine_of self.new) result }
     {
         let lent = self.lent;
         let reply = call_on(call, lent, &mut self.arena, &mut self.ledger);
@@ -123,7 +124,7 @@ impl Machine {
     }
 
     fn stats(&self) -> Printed
-        ensures { Does (Command.Stats) (machine_of self.now) (machine_of self.now) result }
+        ensures { Does (Ok Command.Stats) (machine_of self.now) (machine_of self.now) result }
     {
         let n = self.lent.words;
         let k = self.lent.records;

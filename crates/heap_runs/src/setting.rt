@@ -1,5 +1,5 @@
 // Words and fields put past every rule.
-ghost use Rattle.std.specs.Prelude.{cond, ◌≡◌, ◌≤◌, ltb, length, set};
+ghost use Rattle.std.specs.Prelude.{cond, ◌≡◌, ◌≤◌, ltb, length, set, Ok};
 ghost use Rattle.heap_runs.specs.Run.{heap_with};
 ghost use Rattle.heap_runs.specs.Running.{machine_of, Does};
 
@@ -33,7 +33,7 @@ fn set_word(at: u64, word: u64, most: usize, words: &mut [u64]) -> Printed
 impl Machine {
     // Puts what a line asks for, where it is within what is lent.
     pub(crate) fn set(&mut self, cell: Cell, value: u64) -> Printed
-        ensures { Does (Command.Set cell value) (machine_of self.old) (machine_of self.new) result }
+        ensures { Does (Ok (Command.Set cell value)) (machine_of self.old) (machine_of self.new) result }
     {
         let lent = self.lent;
         match cell {

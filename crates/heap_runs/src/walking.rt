@@ -1,5 +1,5 @@
 // The list of a class, read from its head on.
-ghost use Rattle.std.specs.Prelude.{◌≡◌, length};
+ghost use Rattle.std.specs.Prelude.{◌≡◌, length, Ok};
 ghost use Rattle.heap_state.specs.State.{state};
 ghost use Rattle.linked_list.specs.Links.{nodes};
 ghost use Rattle.heap_runs.specs.Running.{machine_of, Does, Lists};
@@ -36,7 +36,7 @@ fn nodes_of(class: u64, heap: Heap, arena: &[u64], ledger: &[u64]) -> Printed
 
 impl Machine {
     pub(crate) fn list(&self, class: u64) -> Printed
-        ensures { Does (Command.List class) (machine_of self.now) (machine_of self.now) result }
+        ensures { Does (Ok (Command.List class)) (machine_of self.now) (machine_of self.now) result }
     {
         let n = self.lent.words;
         let k = self.lent.records;

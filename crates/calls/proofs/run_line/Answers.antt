@@ -4,6 +4,8 @@ use native.Mathlib.Omega.{arith}
 use borrow.Author.Rules.{rules}
 use Rattle.texts.proofs.Outputs.{still_puts}
 use Rattle.frame_lines.specs.Command.{command_of}
+use Rattle.std.specs.Prelude.{Result}
+use Rattle.grammar.specs.declared.BadLine.{BadLine}
 use Rattle.frame_lines.specs.declared.Command.{Command}
 use Rattle.calls.specs.Run.{printed, words_after}
 use Rattle.calls.proofs.Showing.{shown}
@@ -17,9 +19,9 @@ returns g c =
     let free = c.in_ok-room.ensures in
     let p = c.put_printed in record {
       ready = still_puts free.ready p.ensures;
-      t_after = reply.ensures.t_after ∙ ap (λ (m : Command). words_after m a.t.now) command;
+      t_after = reply.ensures.t_after ∙ ap (λ (m : Result Command BadLine). words_after m a.t.now) command;
       shown = shown reply.result (printed (command_of a.line.now) a.t.now) c.room.new.self p.new.out a.out.now.bytes.now free.bytes_left.bytes
-          (reply.ensures.result_value ∙ ap (λ (m : Command). printed m a.t.now) command) (omega (arith, free.made)) p.ensures;
+          (reply.ensures.result_value ∙ ap (λ (m : Result Command BadLine). printed m a.t.now) command) (omega (arith, free.made)) p.ensures;
       not_shown = search rules;
       place_left = search rules;
       no_error = λ h. search rules;
@@ -31,7 +33,7 @@ returns-in_err-room g c =
     let e = c.in_err-room.ensures in
     record {
       ready = e.ready;
-      t_after = c.run-reply.ensures.t_after ∙ ap (λ (m : Command). words_after m a.t.now) c.command_of.ensures;
+      t_after = c.run-reply.ensures.t_after ∙ ap (λ (m : Result Command BadLine). words_after m a.t.now) c.command_of.ensures;
       shown = search rules;
       not_shown = search rules;
       place_left = search rules;

@@ -1,91 +1,85 @@
 -- `grammar::saying::say` meets its contract: word after word, until the line ends or is bad. Assumes nothing.
+use mathlib.Core.Path.{ap, ◌∙◌}
 use native.Mathlib.Omega.{arith}
+use Rattle.std.specs.Prelude.{Ok}
+use Rattle.std.proofs.lemmas.Result.{err_from_is_err_and}
 use Rattle.grammar.proofs.Sayings.{too_long, too_many, at_name, one_more, no_more, wrong_word}
+use Rattle.grammar.proofs.saying.say.Goals.{In-Some, In-Some-2, In-Some-3}
 use Rattle.grammar.proofs.saying.say.Goals as goal
 
-pub returns-then-line-gt80 : goal.returns-then-line-gt80
-returns-then-line-gt80 c = record {
-  result_value = too_long c.args.line.now (omega arith);
-  result_in_bounds = omega arith;
-}
+pub returns-then-line-gt80-clause-result_value : goal.returns-then-line-gt80-clause-result_value
+returns-then-line-gt80-clause-result_value c = too_long c.args.line.now (omega arith)
 
-pub returns-in-End : goal.returns-in-End
-returns-in-End c =
-    let bs = c.args.line.now in
-    let n = c.piece_end-name.result in record {
-      result_value = no_more bs n (at_name bs n) c.next.result c.next.ensures (omega arith) c.piece_end-name.ensures (omega arith) c.in-End.is;
-      result_in_bounds = c.piece_end-name.ensures.within;
-    }
-
-pub returns-in-Wrong : goal.returns-in-Wrong
-returns-in-Wrong c =
-    let bs = c.args.line.now in
-    let n = c.piece_end-name.result in record {
-      result_value = wrong_word bs n (at_name bs n) c.next.result c.next.ensures (omega arith) c.piece_end-name.ensures c.in-Wrong.is;
-      result_in_bounds = omega arith;
-    }
-
-pub returns-in-End-next : goal.returns-in-End-next
-returns-in-End-next c =
-    let bs = c.args.line.now in
-    let n = c.piece_end-name.result in record {
-      result_value = no_more bs n (one_more bs n (at_name bs n) c.next.result c.next.ensures c.in-Number.is) c.next-in-Number.result c.next-in-Number.ensures (omega arith) c.piece_end-name.ensures (omega arith) c.in-End-next.is;
-      result_in_bounds = c.piece_end-name.ensures.within;
-    }
-
-pub returns-in-Wrong-next : goal.returns-in-Wrong-next
-returns-in-Wrong-next c =
-    let bs = c.args.line.now in
-    let n = c.piece_end-name.result in record {
-      result_value = wrong_word bs n (one_more bs n (at_name bs n) c.next.result c.next.ensures c.in-Number.is) c.next-in-Number.result c.next-in-Number.ensures (omega arith) c.piece_end-name.ensures c.in-Wrong-next.is;
-      result_in_bounds = omega arith;
-    }
-
-pub returns-in-End-next-2 : goal.returns-in-End-next-2
-returns-in-End-next-2 c =
+pub returns-in_err-a-clause-result_value : goal.returns-in_err-a-clause-result_value
+returns-in_err-a-clause-result_value c =
     let bs = c.args.line.now in
     let n = c.piece_end-name.result in
-    let r1 = (one_more bs n (at_name bs n) c.next.result c.next.ensures c.in-Number.is) in record {
-      result_value = no_more bs n (one_more bs n r1 c.next-in-Number.result c.next-in-Number.ensures c.in-Number-next.is) c.next-in-Number-next.result c.next-in-Number-next.ensures (omega arith) c.piece_end-name.ensures (omega arith) c.in-End-next-2.is;
-      result_in_bounds = c.piece_end-name.ensures.within;
-    }
+    let p = err_from_is_err_and c.from_residual.result c.from_residual.ensures.1 in
+    rw p.1 (wrong_word bs n (at_name bs n) c.next.result c.next.ensures (omega arith) c.piece_end-name.ensures c.in_err-a.was)
 
-pub returns-in-Wrong-next-2 : goal.returns-in-Wrong-next-2
-returns-in-Wrong-next-2 c =
+pub returns-in_default-clause-result_value : goal.returns-in_default-clause-result_value
+returns-in_default-clause-result_value c =
     let bs = c.args.line.now in
     let n = c.piece_end-name.result in
-    let r1 = (one_more bs n (at_name bs n) c.next.result c.next.ensures c.in-Number.is) in record {
-      result_value = wrong_word bs n (one_more bs n r1 c.next-in-Number.result c.next-in-Number.ensures c.in-Number-next.is) c.next-in-Number-next.result c.next-in-Number-next.ensures (omega arith) c.piece_end-name.ensures c.in-Wrong-next-2.is;
-      result_in_bounds = omega arith;
-    }
+    no_more bs n (at_name bs n) c.next.result c.next.ensures (omega arith) c.piece_end-name.ensures (omega arith) (c.in_ok-a.was ∙ ap Ok c.in_default.is)
 
-pub returns-in-End-next-3 : goal.returns-in-End-next-3
-returns-in-End-next-3 c =
+pub returns-in_err-b-clause-result_value : goal.returns-in_err-b-clause-result_value
+returns-in_err-b-clause-result_value c =
     let bs = c.args.line.now in
     let n = c.piece_end-name.result in
-    let r1 = (one_more bs n (at_name bs n) c.next.result c.next.ensures c.in-Number.is) in
-    let r2 = (one_more bs n r1 c.next-in-Number.result c.next-in-Number.ensures c.in-Number-next.is) in record {
-      result_value = no_more bs n (one_more bs n r2 c.next-in-Number-next.result c.next-in-Number-next.ensures c.in-Number-next-2.is) c.next-in-Number-next-2.result c.next-in-Number-next-2.ensures (omega arith) c.piece_end-name.ensures (omega arith) c.in-End-next-3.is;
-      result_in_bounds = c.piece_end-name.ensures.within;
-    }
+    let r1 = one_more bs n (at_name bs n) c.next.result c.next.ensures (c.in_ok-a.was ∙ ap Ok c.in-Some.is) in
+    let p = err_from_is_err_and c.from_residual-in_err-b.result c.from_residual-in_err-b.ensures.1 in
+    rw p.1 (wrong_word bs n r1 c.next-2.result c.next-2.ensures (omega arith) c.piece_end-name.ensures c.in_err-b.was)
 
-pub returns-in-Wrong-next-3 : goal.returns-in-Wrong-next-3
-returns-in-Wrong-next-3 c =
+pub returns-in_default-2-clause-result_value : goal.returns-in_default-2-clause-result_value
+returns-in_default-2-clause-result_value c =
     let bs = c.args.line.now in
     let n = c.piece_end-name.result in
-    let r1 = (one_more bs n (at_name bs n) c.next.result c.next.ensures c.in-Number.is) in
-    let r2 = (one_more bs n r1 c.next-in-Number.result c.next-in-Number.ensures c.in-Number-next.is) in record {
-      result_value = wrong_word bs n (one_more bs n r2 c.next-in-Number-next.result c.next-in-Number-next.ensures c.in-Number-next-2.is) c.next-in-Number-next-2.result c.next-in-Number-next-2.ensures (omega arith) c.piece_end-name.ensures c.in-Wrong-next-3.is;
-      result_in_bounds = omega arith;
-    }
+    let r1 = one_more bs n (at_name bs n) c.next.result c.next.ensures (c.in_ok-a.was ∙ ap Ok c.in-Some.is) in
+    no_more bs n r1 c.next-2.result c.next-2.ensures (omega arith) c.piece_end-name.ensures (omega arith) (c.in_ok-b.was ∙ ap Ok c.in_default-2.is)
 
-pub returns-in-Number-next-3 : goal.returns-in-Number-next-3
-returns-in-Number-next-3 c =
+pub returns-in_err-c-clause-result_value : goal.returns-in_err-c-clause-result_value
+returns-in_err-c-clause-result_value c =
     let bs = c.args.line.now in
     let n = c.piece_end-name.result in
-    let r1 = (one_more bs n (at_name bs n) c.next.result c.next.ensures c.in-Number.is) in
-    let r2 = (one_more bs n r1 c.next-in-Number.result c.next-in-Number.ensures c.in-Number-next.is) in
-    let many = one_more bs n (one_more bs n r2 c.next-in-Number-next.result c.next-in-Number-next.ensures c.in-Number-next-2.is) c.next-in-Number-next-2.result c.next-in-Number-next-2.ensures c.in-Number-next-3.is in record {
-      result_value = too_many bs n (omega arith) c.piece_end-name.ensures (omega (arith, many.count));
-      result_in_bounds = omega arith;
-    }
+    let r1 = one_more bs n (at_name bs n) c.next.result c.next.ensures (c.in_ok-a.was ∙ ap Ok c.in-Some.is) in
+    let r2 = one_more bs n r1 c.next-2.result c.next-2.ensures (c.in_ok-b.was ∙ ap Ok c.in-Some-2.is) in
+    let p = err_from_is_err_and c.from_residual-in_err-c.result c.from_residual-in_err-c.ensures.1 in
+    rw p.1 (wrong_word bs n r2 c.next-3.result c.next-3.ensures (omega arith) c.piece_end-name.ensures c.in_err-c.was)
+
+pub returns-in_default-3-clause-result_value : goal.returns-in_default-3-clause-result_value
+returns-in_default-3-clause-result_value c =
+    let bs = c.args.line.now in
+    let n = c.piece_end-name.result in
+    let r1 = one_more bs n (at_name bs n) c.next.result c.next.ensures (c.in_ok-a.was ∙ ap Ok c.in-Some.is) in
+    let r2 = one_more bs n r1 c.next-2.result c.next-2.ensures (c.in_ok-b.was ∙ ap Ok c.in-Some-2.is) in
+    no_more bs n r2 c.next-3.result c.next-3.ensures (omega arith) c.piece_end-name.ensures (omega arith) (c.in_ok-c.was ∙ ap Ok c.in_default-3.is)
+
+pub returns-in_err-next-clause-result_value : goal.returns-in_err-next-clause-result_value
+returns-in_err-next-clause-result_value c =
+    let bs = c.args.line.now in
+    let n = c.piece_end-name.result in
+    let r1 = one_more bs n (at_name bs n) c.next.result c.next.ensures (c.in_ok-a.was ∙ ap Ok c.in-Some.is) in
+    let r2 = one_more bs n r1 c.next-2.result c.next-2.ensures (c.in_ok-b.was ∙ ap Ok c.in-Some-2.is) in
+    let r3 = one_more bs n r2 c.next-3.result c.next-3.ensures (c.in_ok-c.was ∙ ap Ok c.in-Some-3.is) in
+    let p = err_from_is_err_and c.from_residual-in_err-next.result c.from_residual-in_err-next.ensures.1 in
+    rw p.1 (wrong_word bs n r3 c.next-4.result c.next-4.ensures (omega arith) c.piece_end-name.ensures c.in_err-next.was)
+
+pub returns-in-None-clause-result_value : goal.returns-in-None-clause-result_value
+returns-in-None-clause-result_value c =
+    let bs = c.args.line.now in
+    let n = c.piece_end-name.result in
+    let r1 = one_more bs n (at_name bs n) c.next.result c.next.ensures (c.in_ok-a.was ∙ ap Ok c.in-Some.is) in
+    let r2 = one_more bs n r1 c.next-2.result c.next-2.ensures (c.in_ok-b.was ∙ ap Ok c.in-Some-2.is) in
+    let r3 = one_more bs n r2 c.next-3.result c.next-3.ensures (c.in_ok-c.was ∙ ap Ok c.in-Some-3.is) in
+    no_more bs n r3 c.next-4.result c.next-4.ensures (omega arith) c.piece_end-name.ensures (omega arith) (c.in_ok-next.was ∙ ap Ok c.in-None.is)
+
+pub returns-in-Some-4-clause-result_value : goal.returns-in-Some-4-clause-result_value
+returns-in-Some-4-clause-result_value c =
+    let bs = c.args.line.now in
+    let n = c.piece_end-name.result in
+    let r1 = one_more bs n (at_name bs n) c.next.result c.next.ensures (c.in_ok-a.was ∙ ap Ok c.in-Some.is) in
+    let r2 = one_more bs n r1 c.next-2.result c.next-2.ensures (c.in_ok-b.was ∙ ap Ok c.in-Some-2.is) in
+    let r3 = one_more bs n r2 c.next-3.result c.next-3.ensures (c.in_ok-c.was ∙ ap Ok c.in-Some-3.is) in
+    let r4 = one_more bs n r3 c.next-4.result c.next-4.ensures (c.in_ok-next.was ∙ ap Ok c.in-Some-4.is) in
+    too_many bs n (omega arith) c.piece_end-name.ensures (omega (arith, r4.count))

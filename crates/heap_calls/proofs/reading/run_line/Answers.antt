@@ -1,4 +1,6 @@
 -- `heap_calls::reading::run_line` meets its contract: the command that the line is was run. Assumes nothing.
+use Rattle.grammar.specs.declared.BadLine.{BadLine}
+use Rattle.std.specs.Prelude.{Result}
 use borrow.Author.Rules.{rules}
 use mathlib.Core.Bool.{false}
 use mathlib.Core.Path.{◌≡◌, ap, ◌∙◌}
@@ -26,13 +28,13 @@ returns g c =
     let r = c.run-printed in
     let free = c.in_ok-room.ensures in
     let p = c.put_printed in
-    let short : is_long (command_of a.line.now) m ≡ false → by_node r.result ≡ false = λ h. r.ensures.long_is ∙ ap (λ (k : Command). is_long k m) command ∙ h in
+    let short : is_long (command_of a.line.now) m ≡ false → by_node r.result ≡ false = λ h. r.ensures.long_is ∙ ap (λ (k : Result Command BadLine). is_long k m) command ∙ h in
     record {
       ready = still_then free.ready p.ensures.ready;
-      machine_after = r.ensures.machine_is ∙ ap (λ (k : Command). after k m) command;
+      machine_after = r.ensures.machine_is ∙ ap (λ (k : Result Command BadLine). after k m) command;
       shown_short = if_ok p.result (λ h.
           shown (take r.new.self.lent.words r.new.self.arena) r.result (printed (command_of a.line.now) m) c.room.new.self p.new.out a.out.now.bytes.now (short h) free.bytes_left.bytes
-          (r.ensures.line_is ∙ ap (λ (k : Command). printed k m) command) (omega (arith, free.made)) (p.ensures.put (short h)).1);
+          (r.ensures.line_is ∙ ap (λ (k : Result Command BadLine). printed k m) command) (omega (arith, free.made)) (p.ensures.put (short h)).1);
       no_error = λ h room. (p.ensures.put (short h)).0;
     }
 
@@ -42,7 +44,7 @@ returns-in_err-room g c =
     let e = c.in_err-room.ensures in
     record {
       ready = e.ready;
-      machine_after = c.run-printed.ensures.machine_is ∙ ap (λ (m : Command). after m (machine_of a.machine.now)) c.command_of.ensures;
+      machine_after = c.run-printed.ensures.machine_is ∙ ap (λ (m : Result Command BadLine). after m (machine_of a.machine.now)) c.command_of.ensures;
       shown_short = search rules;
       no_error = λ h r. absurd (e.no_error r);
     }
