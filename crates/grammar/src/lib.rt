@@ -9,6 +9,7 @@ mod saying;
 pub use saying::{named, say};
 
 // A line as its words say it: how many bytes its name has, and its numbers.
+// Kept: a name is told by its length and not as a slice, so that a line has one answer (proofs/OneSaying): a slice has an address too.
 #[derive(Clone, Copy)]
 pub enum Said {
     Name(usize),

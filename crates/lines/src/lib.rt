@@ -10,6 +10,7 @@ pub use chunks::gather;
 pub use pieces::piece_end;
 
 // What was taken of a chunk: the place to go on from, how many bytes of the line are kept, and whether the line ended.
+// Kept: the place and the length are told whether the line ended or not, so the flag and they are no Option.
 #[derive(Clone, Copy)]
 pub struct Gathered {
     pub at: usize,
