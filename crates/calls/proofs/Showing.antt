@@ -7,7 +7,7 @@ use lib.ListN.{length}
 use Rattle.answers.specs.Paper.{paper}
 use Rattle.texts.specs.Put.{Shown}
 use Rattle.texts.specs.Output.{Puts}
-use Rattle.texts.specs.declared.waiting.Output.{Output}
+use Rattle.texts.specs.declared.Output.{Output}
 use Rattle.frame_lines.proofs.Lengths.{reply-length}
 use Rattle.calls.specs.Run.{line_of}
 use Rattle.calls.specs.declared.Printed.{Printed}

@@ -87,6 +87,7 @@ fn take_all(
     ensures stopped { OnErr result (Stopped chunk.now held.old.bytes held.old.len t.old t.new) }
 {
     let mut from = 0;
+    // Kept: it goes on from where `gather` stopped, and counts no index.
     while from < chunk.len() {
         let len = held.len;
         let g = lines::gather(chunk, from, &mut held.bytes, len);

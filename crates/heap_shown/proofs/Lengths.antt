@@ -1,14 +1,14 @@
 -- What a line prints has room, unless it is a list's.
 use mathlib.Core.Bool.{Bool, true, false}
 use mathlib.Core.List.{List, ◌++◌}
-use mathlib.Core.Path.{◌≡◌, ap, subst}
+use mathlib.Core.Path.{◌≡◌, ap}
 use Prim.Native.Nat.{ℕ, ◌+◌, ◌≤◌}
 use native.Mathlib.Omega.{arith}
 use lib.ListN.{length}
 use Rattle.answers.specs.Paper.{paper}
 use Rattle.texts.specs.Put.{Shown}
 use Rattle.texts.specs.Output.{Puts}
-use Rattle.texts.specs.declared.waiting.Output.{Output}
+use Rattle.texts.specs.declared.Output.{Output}
 use Rattle.texts.specs.Text.{decimal, line_feed}
 use Rattle.texts.proofs.Lengths.{length-decimal, both}
 use Rattle.heap_runs.specs.declared.Printed.{Printed}

@@ -5,7 +5,7 @@ use Prim.Native.Nat.{ℕ}
 use native.Mathlib.Omega.{arith}
 use lib.ListN.{length}
 use lib.Seq.{length-sets}
-use Rattle.texts.specs.declared.waiting.Output.{Output}
+use Rattle.texts.specs.declared.Output.{Output}
 use Rattle.texts.specs.Output.{Puts, Ready, StillReady}
 use Rattle.texts.proofs.Putting.{then as put_then}
 

@@ -1,6 +1,6 @@
 -- What the methods of an output say: of the struct as it was, and as it is.
 use Rattle.std.specs.Prelude.{List, ◌≡◌, ℕ, ◌≤◌, length}
-use Rattle.texts.specs.declared.waiting.Output.{Output}
+use Rattle.texts.specs.declared.Output.{Output}
 use Rattle.texts.specs.Put.{Put}
 
 -- a text was put at the output's place, in the same buffer

@@ -7,4 +7,10 @@ mod text;
 mod waiting;
 
 pub use text::put;
-pub use waiting::Output;
+
+// A buffer, and the place in it after what waits to be written.
+#[derive(Drop)]
+pub struct Output<'a> {
+    pub bytes: &'a mut [u8],
+    pub at: usize,
+}

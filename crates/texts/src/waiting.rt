@@ -3,18 +3,12 @@ ghost use Rattle.std.specs.Prelude.{◌++◌, ◌≡◌, ◌+◌, ◌<◌, ◌�
 ghost use Rattle.texts.specs.Text.{decimal, hex, hex_digit};
 ghost use Rattle.texts.specs.Output.{Puts, SameBytes, Ready, StillReady};
 
+use crate::Output;
 use crate::text::put;
 use std::io;
 
 // No piece of an output is longer, so that none is cut.
 const LONGEST: usize = 160;
-
-// A buffer, and the place in it after what waits to be written.
-#[derive(Drop)]
-pub struct Output<'a> {
-    pub bytes: &'a mut [u8],
-    pub at: usize,
-}
 
 fn digit(value: u64) -> u8
     requires { value < 16 }

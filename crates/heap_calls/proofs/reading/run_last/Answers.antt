@@ -1,6 +1,5 @@
 -- `heap_calls::reading::run_last` meets its contract: nothing is held of an empty line alone. Assumes nothing.
 use Prim.Native.Nat.{◌<◌}
-use borrow.Author.Rules.{rules}
 use native.Mathlib.Omega.{arith}
 use Rattle.texts.proofs.Outputs.{still_same}
 use Rattle.lines.proofs.Going.{last_none, last_some}

@@ -4,7 +4,7 @@ use mathlib.Core.List.{◌++◌}
 use mathlib.Core.Path.{◌≡◌}
 use lib.ListN.{length, drop}
 use Rattle.texts.specs.Text as text
-use Rattle.texts.proofs.waiting.Output.put_number.Given as goal
+use Rattle.texts.proofs.Output.put_number.Given as goal
 
 abbrev pub invariant-loop-first : goal.invariant-loop-first
 invariant-loop-first l = record {

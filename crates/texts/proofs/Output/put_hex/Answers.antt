@@ -5,7 +5,7 @@ use mathlib.Core.Path.{◌≡◌, ◌∙◌}
 use native.Mathlib.Omega.{arith}
 use lib.ListN.{length-set}
 use Rattle.texts.specs.Text.{hex_digits}
-use Rattle.texts.proofs.waiting.Output.put_hex.Goals as goal
+use Rattle.texts.proofs.Output.put_hex.Goals as goal
 
 pub loop-i-preserved : goal.loop-i-preserved
 loop-i-preserved c =

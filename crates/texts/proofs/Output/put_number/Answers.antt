@@ -8,7 +8,7 @@ use lib.ListN.{take, drop, set, length-set, length-drop}
 use lib.Seq.{take_all}
 use Rattle.texts.specs.Text as text
 use Rattle.texts.proofs.Decimals.{one_less, digits_more, digits-none}
-use Rattle.texts.proofs.waiting.Output.put_number.Goals as goal
+use Rattle.texts.proofs.Output.put_number.Goals as goal
 
 pub returns-then-n-eq0 : goal.returns-then-n-eq0
 unfolding text.decimal
