@@ -2,7 +2,7 @@
 ghost use Rattle.std.specs.Prelude.{◌≡◌, ◌≤◌, ◌<◌, length};
 ghost use Rattle.heap_blocks.specs.Sound.{bytes_of};
 ghost use Rattle.heap_blocks.specs.Parts.{blockb, free_up, freeb};
-ghost use Rattle.heap_lists.specs.Tallied.{Tallied, Walked, Classed};
+ghost use Rattle.heap_lists.specs.Tallied.{InRange, Tallied, Walked, Classed};
 
 use heap_state::Heap;
 use linked_list::iter;
@@ -47,7 +47,7 @@ fn walk(class: u64, head: u64, arena: &[u64]) -> Option<u64>
 
 // One class: a list only where the class may have one.
 fn class_list(order: u64, class: u64, head: u64, arena: &[u64]) -> Option<u64>
-    requires { (order ≤ 33) × (2 ≤ length arena.now) × (length arena.now ≤ 1048576) }
+    requires { InRange order arena.now }
     ensures { Classed order class head arena.now result }
 {
     if head == 0 {
@@ -64,7 +64,7 @@ fn class_list(order: u64, class: u64, head: u64, arena: &[u64]) -> Option<u64>
 
 // The lists of all classes, and their bytes.
 pub fn free_lists(order: u64, heads: &[u64; 33], arena: &[u64]) -> Option<u64>
-    requires { (length heads.now ≡ 33) × (order ≤ 33) × (2 ≤ length arena.now) × (length arena.now ≤ 1048576) }
+    requires { InRange order arena.now }
     ensures { Tallied (freeb order 0 heads.now arena.now) (bytes_of (free_up 0 heads.now arena.now)) result }
 {
     let mut bytes: u64 = 0;

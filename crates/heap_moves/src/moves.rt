@@ -1,4 +1,5 @@
 // Blocks moved between the lists of a heap: those of an added range, of a grant, of a release.
+// Kept: `class < 33` stands as it is in each contract, since it is the bound of an index into the 33 heads, which a name would hide.
 ghost use Rattle.std.specs.Prelude.{◌≡◌, ◌+◌, ◌-◌, ◌^◌, ◌≤◌, ◌<◌, length};
 ghost use Rattle.heap_state.specs.Lists.{push, pop, push_all, release};
 ghost use Rattle.heap_moves.specs.Moves.{mem, Servable, Popped, TakenOut, taken_out, released};

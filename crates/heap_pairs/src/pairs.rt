@@ -1,6 +1,6 @@
 // Whether blocks are disjoint: each free block is compared in pairs with every block after it, free or granted. (Granted blocks stand in
 // the order of their addresses, so among themselves each is compared with the one before it, when the records are read.)
-ghost use Rattle.std.specs.Prelude.{◌≡◌, ◌||◌, ◌++◌, ◌+◌, ◌≤◌, ◌<◌, leb, length, map, take, get_or};
+ghost use Rattle.std.specs.Prelude.{◌≡◌, ◌||◌, ◌++◌, ◌+◌, ◌≤◌, ◌<◌, leb, length, map, get_or};
 ghost use Rattle.heap_blocks.specs.Sound.{blk, apart_from};
 ghost use Rattle.heap_blocks.specs.Parts.{list_blocks, free_up, blocks_of};
 ghost use Rattle.heap_pairs.specs.Pairs.{later_blocks, crossb};
@@ -88,11 +88,9 @@ fn class_apart(class: usize, heads: &[u64; 33], arena: &[u64], records: &[u64]) 
 }
 
 // Each free block and every block after it.
-pub fn free_apart(heads: &[u64; 33], arena: &[u64], ledger: &[u64], count: usize) -> bool
-    requires { count ≤ length ledger.now }
-    ensures { result ≡ crossb (free_up 0 heads.now arena.now) (blocks_of (take count ledger.now)) }
+pub fn free_apart(heads: &[u64; 33], arena: &[u64], records: &[u64]) -> bool
+    ensures { result ≡ crossb (free_up 0 heads.now arena.now) (blocks_of records.now) }
 {
-    let records = &ledger[..count];
     for class in 0..33 {
         if !class_apart(class, heads, arena, records) {
             return false;

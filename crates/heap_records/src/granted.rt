@@ -1,5 +1,5 @@
 // The ledger's records: whether each is well formed, starts where the one before it ends or after, and is a block in its place.
-ghost use Rattle.std.specs.Prelude.{◌≡◌, ◌≤◌, length, take};
+ghost use Rattle.std.specs.Prelude.{◌≡◌, ◌≤◌, length};
 ghost use Rattle.ledger.specs.Ledger.{recordb};
 ghost use Rattle.heap_blocks.specs.Parts.{nextb, grantedb};
 ghost use Rattle.heap_records.specs.Summed.{Summed};
@@ -37,15 +37,15 @@ fn record_ok(order: u64, bytes: u64, floor: u64, w: u64) -> bool
     placed(class_of(w), address_of(w), bytes)
 }
 
-// The first `count` records, and their sums; none where one is wrong.
-pub fn records(order: u64, bytes: u64, ledger: &[u64], count: usize) -> Option<Sums>
-    requires { (order ≤ 33) × (count ≤ length ledger.now) × (length ledger.now ≤ 65535) }
-    ensures { Summed (grantedb order bytes 0 (take count ledger.now)) (take count ledger.now) result }
+// The sums of these records; none where one is wrong.
+pub fn records(order: u64, bytes: u64, words: &[u64]) -> Option<Sums>
+    requires { (order ≤ 33) × (length words.now ≤ 65535) }
+    ensures { Summed (grantedb order bytes 0 words.now) words.now result }
 {
     let mut floor: u64 = 0;
     let mut user: u64 = 0;
     let mut allocated: u64 = 0;
-    for &w in &ledger[..count] {
+    for &w in words {
         if !record_ok(order, bytes, floor, w) {
             return None;
         }

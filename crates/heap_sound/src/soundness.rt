@@ -20,7 +20,7 @@ pub fn sound(h: Heap, arena: &[u64], ledger: &[u64]) -> bool
     };
     let count = h.count as usize;
     let bytes = arena.len() as u64 * Heap::WORD_BYTES;
-    let Some(granted) = records(h.order, bytes, ledger, count) else {
+    let Some(granted) = records(h.order, bytes, &ledger[..count]) else {
         return false;
     };
     if !zeros_from(ledger, count) {
@@ -35,5 +35,5 @@ pub fn sound(h: Heap, arena: &[u64], ledger: &[u64]) -> bool
     if h.total != granted.allocated + free {
         return false;
     }
-    free_apart(&h.heads, arena, ledger, count)
+    free_apart(&h.heads, arena, &ledger[..count])
 }

@@ -55,7 +55,7 @@ impl<'a> Iterator for Nodes<'a> {
     ghost remaining = { item_count (λ s. s) };
 
     fn next(&mut self) -> Option<u64> {
-        if self.left == 0 || self.node == 0 {
+        if self.node == 0 || self.left == 0 {
             return None;
         }
         let node = self.node;

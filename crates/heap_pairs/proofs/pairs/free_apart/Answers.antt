@@ -12,18 +12,18 @@ loop-class-init c = refl
 pub returns-then-not-class_apart : goal.returns-then-not-class_apart
 returns-then-not-class_apart c =
     let a = c.args in
-    let step = classes-step a.heads.now a.arena.now (blocks_of (take a.count a.ledger.now)) c.loop-class.class (omega arith) in
+    let step = classes-step a.heads.now a.arena.now (blocks_of a.records.now) c.loop-class.class (omega arith) in
     let bad = sym c.class_apart.ensures ∙ c.if-not-class_apart.true in
     sym (step ∙ rw bad) ∙ c.loop-class.invariant
 
 pub loop-class-preserved : goal.loop-class-preserved
 loop-class-preserved c =
     let a = c.args in
-    let step = classes-step a.heads.now a.arena.now (blocks_of (take a.count a.ledger.now)) c.loop-class.class (omega arith) in
+    let step = classes-step a.heads.now a.arena.now (blocks_of a.records.now) c.loop-class.class (omega arith) in
     let good = sym c.class_apart.ensures ∙ c.if-not-class_apart.false in
     rw good at (sym step) ∙ c.loop-class.invariant
 
 pub returns : goal.returns
 returns c =
     let a = c.args in
-    sym (classes-end a.heads.now a.arena.now (blocks_of (take a.count a.ledger.now)) c.loop-class.class (omega arith)) ∙ c.loop-class.invariant
+    sym (classes-end a.heads.now a.arena.now (blocks_of a.records.now) c.loop-class.class (omega arith)) ∙ c.loop-class.invariant

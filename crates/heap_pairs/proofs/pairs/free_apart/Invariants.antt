@@ -6,4 +6,4 @@ use Rattle.heap_pairs.specs.Pairs.{crossb}
 use Rattle.heap_pairs.proofs.pairs.free_apart.Given as goal
 
 abbrev pub invariant-loop-class : goal.invariant-loop-class
-invariant-loop-class l = crossb (free_up l.class l.heads l.arena) (blocks_of (take l.count l.ledger)) ≡ crossb (free_up 0 l.heads l.arena) (blocks_of (take l.count l.ledger))
+invariant-loop-class l = crossb (free_up l.class l.heads l.arena) (blocks_of l.records) ≡ crossb (free_up 0 l.heads l.arena) (blocks_of l.records)

@@ -10,7 +10,7 @@ use Rattle.heap_records.proofs.Passing.{passed-none, passed-all, passed-wrong, p
 use Rattle.heap_records.proofs.granted.records.Goals as goal
 
 pub loop-w-init : goal.loop-w-init
-loop-w-init c = passed-none c.args.order c.args.bytes (take c.args.count c.args.ledger.now)
+loop-w-init c = passed-none c.args.order c.args.bytes c.args.words.now
 
 pub returns-then-not-record_ok : goal.returns-then-not-record_ok
 returns-then-not-record_ok c =
@@ -20,7 +20,7 @@ returns-then-not-record_ok c =
 pub loop-w-preserved : goal.loop-w-preserved
 loop-w-preserved c =
     let l = c.loop-w in
-    let w = get_or (take c.args.count c.args.ledger.now) l.w-index 0 in
+    let w = get_or c.args.words.now l.w-index 0 in
     let good = sym c.record_ok.ensures ∙ c.if-not-record_ok.false in
     let f = next-fact c.args.order c.args.bytes l.floor w good in
     let z : 1 * 2 ^ c.class_of-size.result % 2 ^ 64 ≡ 2 ^ class_of w = one_shl c.class_of-size.result (omega arith) ∙ ap (λ (n : ℕ). 2 ^ n) c.class_of-size.ensures in

@@ -3,4 +3,4 @@ use Rattle.heap_records.proofs.Passing.{Passed}
 use Rattle.heap_records.proofs.granted.records.Given as goal
 
 abbrev pub invariant-loop-w : goal.invariant-loop-w
-invariant-loop-w l = Passed l.order l.bytes l.w-items l.w-index l.floor l.user l.allocated
+invariant-loop-w l = Passed l.order l.bytes l.words l.w-index l.floor l.user l.allocated

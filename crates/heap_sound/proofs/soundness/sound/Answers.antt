@@ -2,7 +2,7 @@
 -- is sound just where they are apart. Assumes nothing.
 use mathlib.Core.Path.{◌≡◌, sym, ◌∙◌}
 use native.Mathlib.Omega.{arith}
-use lib.ListN.{length}
+use lib.Seq.{length-take-le}
 use Rattle.words.proofs.Tests.{clash}
 use Rattle.heap_lists.proofs.Tallies as tallies
 use Rattle.heap_records.proofs.Passing as passing
@@ -15,10 +15,8 @@ returns-then-not-ranges_ok c = unsound c.args.h c.args.arena.now c.args.ledger.n
 
 pub free_lists-requires : goal.free_lists-requires
 free_lists-requires c =
-    let a = c.args in
-    let q = ranges-of a.h a.arena.now a.ledger.now (sym c.ranges_ok.ensures ∙ c.if-not-ranges_ok.false) in
-    let l : length a.h.heads ≡ 33 = search rules in
-    (l, q.order-high, q.arena-low, q.arena-high)
+    let q = ranges-of c.args.h c.args.arena.now c.args.ledger.now (sym c.ranges_ok.ensures ∙ c.if-not-ranges_ok.false) in
+    (q.order-high, q.arena-low, q.arena-high)
 
 pub returns-in_default : goal.returns-in_default
 returns-in_default c = unsound c.args.h c.args.arena.now c.args.ledger.now (λ t. c.in_default.not-Some _ (rw t.free at c.free_lists.ensures))
@@ -26,7 +24,7 @@ returns-in_default c = unsound c.args.h c.args.arena.now c.args.ledger.now (λ t
 pub records-requires : goal.records-requires
 records-requires c =
     let q = ranges-of c.args.h c.args.arena.now c.args.ledger.now (sym c.ranges_ok.ensures ∙ c.if-not-ranges_ok.false) in
-    (q.order-high, q.room, q.ledger-high)
+    (q.order-high, omega (arith, length-take-le c.args.h.count c.args.ledger.now q.room, q.ledger-high, q.room))
 
 pub returns-in_default-records : goal.returns-in_default-records
 returns-in_default-records c = unsound c.args.h c.args.arena.now c.args.ledger.now (λ t. c.in_default-records.not-Some _ (rw t.granted at c.records.ensures))
@@ -58,9 +56,6 @@ returns-then-h-granted-3 c =
     let g = passing.told-some _ _ _ c.in-Some-records.ensures in
     let f = tallies.told-some _ _ _ c.in-Some.ensures in
     unsound c.args.h c.args.arena.now c.args.ledger.now (λ t. c.if-h-granted-3.true (omega (arith, t.total, g.sizes, f.1)))
-
-pub free_apart-requires : goal.free_apart-requires
-free_apart-requires c = (ranges-of c.args.h c.args.arena.now c.args.ledger.now (sym c.ranges_ok.ensures ∙ c.if-not-ranges_ok.false)).room
 
 pub returns : goal.returns
 returns c =
