@@ -6,7 +6,6 @@ ghost use Rattle.std.specs.Prelude.{◌≡◌};
 ghost use Rattle.blocks.specs.Blocks.{size_of, size_class, prev_power_of_two, rounded, rounded_aligned, is_power_of_two, lowest_bit, buddy_of, piece_size};
 ghost use Rattle.blocks_c.specs.Numbers.{class_number, flag};
 
-
 #[unsafe(no_mangle)]
 pub extern "C" fn lavikety_blocks_size_of(class: u64) -> u64
     ensures { result ≡ size_of class }
