@@ -35,6 +35,8 @@ fn add_at(t: &mut [u64], i: usize, start: u64, end: u64) -> Answer
 }
 
 // How many pieces n frames from start on are cut into, counted no further than one past `most`: a range may have 2^32 pieces.
+// Kept: the walk stands here and in `write_pieces`. An iterator over the pieces would be a type with an invariant, and promise its steps and
+// its end: more to read than the two loops.
 fn pieces(start: u64, n: u64, top: u64, most: usize) -> usize
     requires { Range top start n × (most ≤ 65535) }
     ensures { result ≡ min (length (pieces_of top start n)) (most + 1) }

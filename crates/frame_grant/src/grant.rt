@@ -17,16 +17,12 @@ pub fn grant_block(t: &mut [u64], size: Option<u64>) -> Answer
     requires { (soundb t.old ≡ true) × (wanted size ≤ 33) }
     ensures { Says (carried (0 ∷ []) t.old (granting (wanted size) (order_of (get_or t.old 0 0)) (length t.old - 1) (blocks_of t.old))) (reply_of result) t.new }
 {
-    let Some(class) = size else {
-        return Err(Refusal::NoBlock);
-    };
+    let class = size.ok_or(Refusal::NoBlock)?;
     let order = table::order_of(t[0]);
     if order <= class {
         return Err(Refusal::NoBlock);
     }
-    let Some(i) = frame_core::pick(t, order, class) else {
-        return Err(Refusal::NoBlock);
-    };
+    let i = frame_core::pick(t, order, class).ok_or(Refusal::NoBlock)?;
     let lowest = table::start_of(t[i + 1]);
     frame_halve::halve(t, i, class, lowest)
 }
@@ -36,9 +32,7 @@ pub fn grant_run(t: &mut [u64], start: u64, size: Option<u64>) -> Answer
     requires { (soundb t.old ≡ true) × (wanted size ≤ 33) }
     ensures { Says (carried (0 ∷ []) t.old (granting_at start (wanted size) (order_of (get_or t.old 0 0)) (length t.old - 1) (blocks_of t.old))) (reply_of result) t.new }
 {
-    let Some(class) = size else {
-        return Err(Refusal::NoBlock);
-    };
+    let class = size.ok_or(Refusal::NoBlock)?;
     if table::order_of(t[0]) <= class {
         return Err(Refusal::NoBlock);
     }

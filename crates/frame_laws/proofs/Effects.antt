@@ -14,7 +14,7 @@ use Rattle.answers.specs.declared.Refusal.TheVariants.{BadRange, Overlap, BadAli
 use Rattle.answers.specs.Paper.{number_of}
 use Rattle.answers.specs.Judging.{refused, done, Check, refuse, judge}
 use Rattle.blocks.specs.Blocks.{rounded, is_power_of_two}
-use Rattle.std.specs.Prelude.{Option, Some, None}
+use Rattle.std.specs.Prelude.{Option, Some, None, is_none, unwrap_or}
 use Rattle.rules.specs.Aligned.{Aligned}
 use Rattle.rules.specs.Largest.{Joined}
 use Rattle.rules.specs.Rules.{Block, Sound, start, some, added, overlaps, serving, containing, block_at, halved, is_granted, released}
@@ -26,7 +26,7 @@ use Rattle.rules.proofs.Lengths.{released-length}
 use Rattle.rules.proofs.Restored.{serving-offers, containing-offers, grant-granted, restored}
 use Rattle.frame_core.specs.Deciding.{Decision, wanted, no_room}
 use Rattle.frame_add.specs.Adding.{adding}
-use Rattle.frame_grant.specs.Granting.{is_nowhere, place_in, granted_from, granting, granting_at}
+use Rattle.frame_grant.specs.Granting.{granted_from, granting, granting_at}
 use Rattle.frame_release.specs.Releasing.{releasing}
 use Rattle.frame.specs.Outcome.{Call, Add, Alloc, AllocAligned, AllocAt, Dealloc, DeallocAligned, Summary, aligned_to, decide}
 use Rattle.frame_laws.specs.Demand3.{Requests, alloc, alloc_aligned, Grants, any, alloc_at, Releases, dealloc, dealloc_aligned}
@@ -52,10 +52,10 @@ test P false r cs d holds fails = fails refl
 -- what is left of the checks of a grant once its class is known to be small enough, and what it decides
 module _ (room : ℕ) (bs : List Block) where
   abbrev pub rest : Option ℕ → (Block → ℕ) → ℕ → List Check
-  rest f run k = refuse (is_nowhere f) NoBlock ∷ no_room room (granted_from f run k bs) ∷ []
+  rest f run k = refuse (is_none f) NoBlock ∷ no_room room (granted_from f run k bs) ∷ []
 
   abbrev pub given : Option ℕ → (Block → ℕ) → ℕ → Decision
-  given f run k = done (run (block_at (place_in f) bs) ∷ []) (granted_from f run k bs)
+  given f run k = done (run (block_at (unwrap_or f 0) bs) ∷ []) (granted_from f run k bs)
 
 module _ (order room : ℕ) (bs : List Block) (low : 1 ≤ order) (high : order ≤ 33) (sound : Sound (order - 1) 0 bs) (fits : length bs ≤ room) where
   abbrev Has : Call → Decision → Type 0

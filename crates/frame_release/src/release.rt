@@ -28,60 +28,30 @@ fn join(t: &[u64], i: usize) -> Span
     let count = table::count_of(head);
     let top = table::order_of(head) - 1;
     let w = t[i + 1];
-    let mut from = i;
-    let mut to = i + 1;
-    let mut class = table::class_of(w);
-    let mut start = table::start_of(w);
-    while class < top {
-        let buddy = blocks::buddy(start, class);
-        let wanted = table::record_word(false, class, buddy);
-        if start < buddy {
-            if to == count {
-                return Span {
-                    from,
-                    to,
-                    class,
-                    start,
-                };
+    let mut span = Span {
+        from: i,
+        to: i + 1,
+        class: table::class_of(w),
+        start: table::start_of(w),
+    };
+    while span.class < top {
+        let buddy = blocks::buddy(span.start, span.class);
+        let wanted = table::record_word(false, span.class, buddy);
+        if span.start < buddy {
+            if span.to == count || t[span.to + 1] != wanted {
+                return span;
             }
-            if t[to + 1] != wanted {
-                return Span {
-                    from,
-                    to,
-                    class,
-                    start,
-                };
-            }
-            to += 1;
-            class += 1;
+            span.to += 1;
         } else {
-            if from == 0 {
-                return Span {
-                    from,
-                    to,
-                    class,
-                    start,
-                };
+            if span.from == 0 || t[span.from] != wanted {
+                return span;
             }
-            if t[from] != wanted {
-                return Span {
-                    from,
-                    to,
-                    class,
-                    start,
-                };
-            }
-            from -= 1;
-            start = buddy;
-            class += 1;
+            span.from -= 1;
+            span.start = buddy;
         }
+        span.class += 1;
     }
-    Span {
-        from,
-        to,
-        class,
-        start,
-    }
+    span
 }
 
 // The granted block at place i of a sound table becomes free, joined as far as its buddies are free: one splice.
@@ -105,9 +75,7 @@ pub fn release_block(t: &mut [u64], start: u64, size: Option<u64>) -> Answer
     requires { (soundb t.old ≡ true) × (wanted size ≤ 33) }
     ensures { Says (carried (0 ∷ []) t.old (releasing start (wanted size) (order_of (get_or t.old 0 0)) (blocks_of t.old))) (reply_of result) t.new }
 {
-    let Some(class) = size else {
-        return Err(Refusal::NotGranted);
-    };
+    let class = size.ok_or(Refusal::NotGranted)?;
     let Place::Inside(i) = table::place(t, start) else {
         return Err(Refusal::NotGranted);
     };

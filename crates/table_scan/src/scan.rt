@@ -20,7 +20,6 @@ pub fn sound(t: &[u64]) -> bool
 }
 
 // Word 0 of a table of n words.
-#[tactic(auto, unfolding(table::specs::Sound::headb))]
 fn head_ok(n: usize, w: u64) -> bool
     requires { 1 ≤ n }
     ensures { result ≡ headb n w }
@@ -54,7 +53,6 @@ fn records_ok(records: &[u64], order: u64) -> bool
 }
 
 // A record's word by itself.
-#[tactic(auto, unfolding(table::specs::Sound::recordb))]
 fn record_ok(order: u64, w: u64) -> bool
     ensures { result ≡ recordb order w }
 {
@@ -114,7 +112,6 @@ fn lap(start: u32, last: u32) -> u32
 
 // Nothing wrong was gathered: in the words or-ed no zero field and no class of 32 or more, no start above a multiple of its size, no
 // mask of a class that is not below ORDER, and no lap.
-#[tactic(auto, unfolding(crate::specs::Scan::cleanb))]
 fn clean(order: u64, words: u64, overs: u32, masks: u32, laps: u32) -> bool
     requires { (1 ≤ order) × (order ≤ 33) }
     ensures { result ≡ cleanb order words overs masks laps }

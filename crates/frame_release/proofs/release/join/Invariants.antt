@@ -7,9 +7,9 @@ use Rattle.frame_release.specs.Release.{Releasable}
 use Rattle.frame_release.proofs.Spans.{Span}
 use Rattle.frame_release.proofs.release.join.Given as goal
 
-abbrev pub invariant-loop-class : goal.invariant-loop-class
-invariant-loop-class l = (l.count < length l.t) × (l.count ≡ count_of (get_or l.t 0 0)) × (l.top ≡ order_of (get_or l.t 0 0) - 1) × (l.top ≤ 32) × (l.from ≤ l.i) × (l.i < l.to) × (l.to ≤ l.count)
-    × Releasable l.t l.i × Span l.t l.i l.from l.to l.class l.start
+abbrev pub invariant-loop-span : goal.invariant-loop-span
+invariant-loop-span l = (l.count < length l.t) × (l.count ≡ count_of (get_or l.t 0 0)) × (l.top ≡ order_of (get_or l.t 0 0) - 1) × (l.top ≤ 32) × (l.span.from ≤ l.i) × (l.i < l.span.to)
+    × (l.span.to ≤ l.count) × Releasable l.t l.i × Span l.t l.i l.span.from l.span.to l.span.class l.span.start
 
-abbrev pub decreases-loop-class : goal.decreases-loop-class
-decreases-loop-class l = l.top - l.class
+abbrev pub decreases-loop-span : goal.decreases-loop-span
+decreases-loop-span l = l.top - l.span.class
