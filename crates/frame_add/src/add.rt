@@ -1,10 +1,10 @@
 // Adding a range: its pieces counted, then written at their place.
-ghost use Rattle.std.specs.Prelude.{◌≡◌, true, [], ◌∷◌, map, ◌+◌, ◌-◌, ◌≤◌, ◌<◌, min, length, get_or};
+ghost use Rattle.std.specs.Prelude.{◌≡◌, true, map, ◌+◌, ◌-◌, ◌≤◌, ◌<◌, min, length, get_or};
 ghost use Rattle.rules.proofs.Adding.{Range, pieces_of};
 ghost use Rattle.table.specs.Layout.{order_of, count_of, word_of, blocks_of};
 ghost use Rattle.table.specs.Sound.{soundb};
 ghost use Rattle.words.proofs.Writing.{filled};
-ghost use Rattle.frame_core.specs.Carried.{carried, Says, reply_of};
+ghost use Rattle.frame_core.specs.Carried.{Carries};
 ghost use Rattle.frame_add.specs.Add.{Addable, Placed, starts_before};
 ghost use Rattle.frame_add.specs.Adding.{adding};
 
@@ -87,7 +87,7 @@ fn starts_before(t: &[u64], i: usize, end: u64) -> bool
 // The frames [start, end) are added to a sound table.
 pub fn add_range(t: &mut [u64], start: u64, end: u64) -> Answer
     requires { soundb t.old ≡ true }
-    ensures { Says (carried (0 ∷ []) t.old (adding start end (order_of (get_or t.old 0 0)) (length t.old - 1) (blocks_of t.old))) (reply_of result) t.new }
+    ensures { Carries (adding start end (order_of (get_or t.old 0 0)) (length t.old - 1) (blocks_of t.old)) t.old result t.new }
 {
     if end < start {
         return Err(Refusal::BadRange);

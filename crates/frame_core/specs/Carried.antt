@@ -28,3 +28,7 @@ reply_of a = record { number = (paper a).number; values = (paper a).value ∷ []
 pub record Says (o : Outcome) (r : Reply) (after : List ℕ) : Type 0 where
   pub reply : r ≡ o.reply
   pub words : after ≡ o.words
+
+-- the promise of a call on a sound table: the answer and every word afterwards are what is decided
+abbrev pub Carries : Decision → List ℕ → Answer → List ℕ → Type 0
+Carries d before a after = Says (carried (0 ∷ []) before d) (reply_of a) after

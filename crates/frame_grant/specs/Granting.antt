@@ -1,5 +1,5 @@
 -- What granting and granting at a start decide over the blocks of a sound table, from docs/RULES.md, "Blocks of frames" and "Refusal numbers".
-use Rattle.std.specs.Prelude.{Bool, true, false, not, List, [], ◌∷◌, ℕ, ◌-◌, ◌%◌, ◌^◌, eqb, leb, Option, is_none, unwrap_or}
+use Rattle.std.specs.Prelude.{not, List, [], ◌∷◌, ℕ, ◌-◌, ◌%◌, ◌^◌, eqb, leb, Option, is_none, unwrap_or}
 use Rattle.answers.specs.declared.Refusal.TheVariants.{Misaligned, NoBlock}
 use Rattle.answers.specs.Judging.{done, refuse, judge}
 use Rattle.rules.specs.Rules.{Block, start, serving, containing, block_at, halved}

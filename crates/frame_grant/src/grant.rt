@@ -1,9 +1,8 @@
 // Grants from a sound table, of a size that was rounded to its class.
-ghost use Rattle.std.specs.Prelude.{◌≡◌, true, [], ◌∷◌, ◌-◌, ◌≤◌, length, get_or};
+ghost use Rattle.std.specs.Prelude.{◌-◌, length, get_or};
 ghost use Rattle.table.specs.Layout.{order_of, blocks_of};
-ghost use Rattle.table.specs.Sound.{soundb};
-ghost use Rattle.frame_core.specs.Deciding.{wanted};
-ghost use Rattle.frame_core.specs.Carried.{carried, Says, reply_of};
+ghost use Rattle.frame_core.specs.Deciding.{Asked, wanted};
+ghost use Rattle.frame_core.specs.Carried.{Carries};
 ghost use Rattle.frame_grant.specs.Granting.{granting, granting_at};
 
 use answers::{Answer, Refusal};
@@ -14,8 +13,8 @@ const GRANTED: u64 = 0x8000_0000_0000_0000;
 
 // The smallest class that has a free block that suffices, in it the lowest start.
 pub fn grant_block(t: &mut [u64], size: Option<u64>) -> Answer
-    requires { (soundb t.old ≡ true) × (wanted size ≤ 33) }
-    ensures { Says (carried (0 ∷ []) t.old (granting (wanted size) (order_of (get_or t.old 0 0)) (length t.old - 1) (blocks_of t.old))) (reply_of result) t.new }
+    requires { Asked t.old size }
+    ensures { Carries (granting (wanted size) (order_of (get_or t.old 0 0)) (length t.old - 1) (blocks_of t.old)) t.old result t.new }
 {
     let class = size.ok_or(Refusal::NoBlock)?;
     let order = table::order_of(t[0]);
@@ -29,8 +28,8 @@ pub fn grant_block(t: &mut [u64], size: Option<u64>) -> Answer
 
 // The run of the class at start, from the one free block that contains it.
 pub fn grant_run(t: &mut [u64], start: u64, size: Option<u64>) -> Answer
-    requires { (soundb t.old ≡ true) × (wanted size ≤ 33) }
-    ensures { Says (carried (0 ∷ []) t.old (granting_at start (wanted size) (order_of (get_or t.old 0 0)) (length t.old - 1) (blocks_of t.old))) (reply_of result) t.new }
+    requires { Asked t.old size }
+    ensures { Carries (granting_at start (wanted size) (order_of (get_or t.old 0 0)) (length t.old - 1) (blocks_of t.old)) t.old result t.new }
 {
     let class = size.ok_or(Refusal::NoBlock)?;
     if table::order_of(t[0]) <= class {

@@ -1,8 +1,8 @@
 // A grant in place: the record of a free block becomes those of its halves and of the run.
-ghost use Rattle.std.specs.Prelude.{◌≡◌, [], ◌∷◌, ◌++◌, map, ◌+◌, ◌-◌, ◌^◌, ◌≤◌, ◌<◌, length, take, drop};
+ghost use Rattle.std.specs.Prelude.{◌≡◌, ◌++◌, map, ◌+◌, ◌-◌, ◌^◌, ◌≤◌, ◌<◌, length, take, drop};
 ghost use Rattle.rules.specs.Rules.{towards};
 ghost use Rattle.table.specs.Layout.{word_of};
-ghost use Rattle.frame_core.specs.Carried.{carried, reply_of, Says};
+ghost use Rattle.frame_core.specs.Carried.{Carries};
 ghost use Rattle.frame_halve.specs.Halve.{Halvable, halving};
 
 use answers::{Answer, Refusal};
@@ -10,7 +10,7 @@ use answers::{Answer, Refusal};
 // The block at place i of a sound table is halved towards the run of `class` at `run`, if there is room.
 pub fn halve(t: &mut [u64], i: usize, class: u64, run: u64) -> Answer
     requires { Halvable t.old i class }
-    ensures { Says (carried (0 ∷ []) t.old (halving class run i t.old)) (reply_of result) t.new }
+    ensures { Carries (halving class run i t.old) t.old result t.new }
 {
     let head = t[0];
     let count = table::count_of(head);

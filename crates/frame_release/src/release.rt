@@ -1,9 +1,8 @@
 // A granted block becomes free and is joined with its buddies.
-ghost use Rattle.std.specs.Prelude.{◌≡◌, true, [], ◌∷◌, ◌≤◌, get_or};
+ghost use Rattle.std.specs.Prelude.{get_or};
 ghost use Rattle.table.specs.Layout.{order_of, blocks_of};
-ghost use Rattle.table.specs.Sound.{soundb};
-ghost use Rattle.frame_core.specs.Deciding.{wanted};
-ghost use Rattle.frame_core.specs.Carried.{carried, Says, reply_of};
+ghost use Rattle.frame_core.specs.Deciding.{Asked, wanted};
+ghost use Rattle.frame_core.specs.Carried.{Carries};
 ghost use Rattle.frame_release.specs.Release.{Releasable, Joins, released_at};
 ghost use Rattle.frame_release.specs.Releasing.{releasing};
 
@@ -57,7 +56,7 @@ fn join(t: &[u64], i: usize) -> Span
 // The granted block at place i of a sound table becomes free, joined as far as its buddies are free: one splice.
 fn release_at(t: &mut [u64], i: usize) -> Answer
     requires { Releasable t.old i }
-    ensures { Says (carried (0 ∷ []) t.old (released_at t.old i)) (reply_of result) t.new }
+    ensures { Carries (released_at t.old i) t.old result t.new }
 {
     let head = t[0];
     let count = table::count_of(head);
@@ -72,8 +71,8 @@ fn release_at(t: &mut [u64], i: usize) -> Answer
 
 // Releases the block at start of the class that a count was rounded to, if such a block is granted, in a sound table.
 pub fn release_block(t: &mut [u64], start: u64, size: Option<u64>) -> Answer
-    requires { (soundb t.old ≡ true) × (wanted size ≤ 33) }
-    ensures { Says (carried (0 ∷ []) t.old (releasing start (wanted size) (order_of (get_or t.old 0 0)) (blocks_of t.old))) (reply_of result) t.new }
+    requires { Asked t.old size }
+    ensures { Carries (releasing start (wanted size) (order_of (get_or t.old 0 0)) (blocks_of t.old)) t.old result t.new }
 {
     let class = size.ok_or(Refusal::NotGranted)?;
     let Place::Inside(i) = table::place(t, start) else {

@@ -1,6 +1,5 @@
 -- `frame_core::tally::count_frames` meets its contract: the figures so far and those of the records to come are the table's. Assumes nothing.
-use Rattle.std.proofs.Common.{◌≡◌, ℕ, ◌+◌, ◌≤◌, List, length, map, sym, subst, arith, rules}
-use Rattle.table.specs.Layout.{block_of}
+use Rattle.std.proofs.Common.{◌+◌, ◌≤◌, length, arith, rules}
 use Rattle.table.proofs.Facts.{sound-fact}
 use Rattle.table.proofs.Walked.{walked, walked-sound}
 use Rattle.frame_core.proofs.Tallies.{begins, ends, fits, goes_on}
