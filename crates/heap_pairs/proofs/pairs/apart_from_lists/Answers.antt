@@ -1,5 +1,7 @@
 -- `heap_pairs::pairs::apart_from_lists` meets its contract: the classes left are compared as all are. Assumes nothing.
-use mathlib.Core.Path.{refl, sym, ◌∙◌}
+use mathlib.Core.Path.{◌≡◌, refl, sym, ◌∙◌}
+use lib.ListN.{length, get_or}
+use Rattle.linked_list.proofs.Steps.{nodes-end}
 use native.Mathlib.Omega.{arith}
 use Rattle.heap_blocks.specs.Sound.{blk}
 use Rattle.heap_pairs.proofs.Crossing.{lists-step, lists-end}
@@ -14,6 +16,13 @@ returns-then-not-apart_from_list c =
     let step = lists-step (blk a.class a.address) a.heads.now a.arena.now c.loop-other.other (omega arith) in
     let bad = sym (rw c.iter-nodes.ensures at c.apart_from_list.ensures) ∙ c.if-not-apart_from_list.true in
     sym (step ∙ rw bad) ∙ c.loop-other.invariant
+
+pub loop-other-preserved-then-heads-other-eq0 : goal.loop-other-preserved-then-heads-other-eq0
+loop-other-preserved-then-heads-other-eq0 c =
+    let a = c.args in
+    let step = lists-step (blk a.class a.address) a.heads.now a.arena.now c.loop-other.other (omega arith) in
+    let none : get_or a.heads.now c.loop-other.other 0 ≡ 0 = omega (arith, c.if-heads-other-eq0.true) in
+    rw (none, nodes-end (length a.arena.now) a.arena.now) at (sym step) ∙ c.loop-other.invariant
 
 pub loop-other-preserved : goal.loop-other-preserved
 loop-other-preserved c =
