@@ -35,10 +35,8 @@ fn write_halves(t: &mut [u64], at: usize, class: u64, run: u64, from: u64, start
 {
     let mut lo = at;
     let mut hi = at + 1 + (from - class) as usize;
-    let mut k = from;
     let mut s = start;
-    while class < k {
-        k -= 1;
+    for k in (class..from).rev() {
         let mid = s + blocks::size_of(k);
         if run < mid {
             hi -= 1;

@@ -9,6 +9,3 @@ use Rattle.frame_halve.proofs.halving.write_halves.Given as goal
 abbrev pub invariant-loop-k : goal.invariant-loop-k
 invariant-loop-k l = (l.class ≤ l.k) × (l.k ≤ 32) × (l.s + 2 ^ l.k ≤ 2 ^ 32) × (l.hi ≡ l.lo + 1 + (l.k - l.class)) × (l.hi ≤ length l.t) × (length l.t ≡ length l.initial.t)
     × (window l.t l.lo l.hi (towards l.k l.class l.run l.s) ≡ window l.initial.t l.at (l.at + 1 + (l.from - l.class)) (towards l.from l.class l.run l.start))
-
-abbrev pub decreases-loop-k : goal.decreases-loop-k
-decreases-loop-k l = l.k - l.class
