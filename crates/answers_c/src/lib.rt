@@ -7,6 +7,7 @@ ghost use Rattle.answers_c.specs.Numbers.{numbers_of};
 
 use answers::Answer;
 
+// Kept: C has no Result, so an answer crosses as two numbers (include/lavikety.h).
 // An answer as C gets it: 16 bytes, which come back in registers on every machine that we compile for.
 #[repr(C)]
 #[derive(Clone, Copy)]

@@ -27,7 +27,7 @@ pub extern "C" fn lavikety_blocks_prev_power_of_two(num: u64) -> u64
     blocks::prev_power_of_two(num)
 }
 
-// A class as a number: 64 stands for Above.
+// Kept: C has no Option. A class as a number: 64 stands for None.
 fn class_number(r: Option<u64>) -> u64
     ensures { result ≡ class_number r }
 {

@@ -4,6 +4,9 @@
 
 #![tactic(auto)]
 
+// Kept: record, arena and ledger stay parameters of their own, since `&` or `&mut` says of each whether a call may change it; a struct of the three would not.
+// Size and alignment are two numbers, as C passes them: a struct would be made at each call to be taken apart in it.
+
 ghost use Rattle.heap_state.specs.State.{state};
 ghost use Rattle.heap.specs.Outcome.{Init, AddToHeap, Alloc, Dealloc, ZeroFill, StatsAllocUser, StatsAllocActual, StatsTotalBytes};
 ghost use Rattle.heap.specs.Told.{Told, Read};

@@ -34,6 +34,7 @@ pub fn grant_bytes(h: Heap, arena: &mut [u64], ledger: &mut [u64], size: u64, al
     grant_from(h, arena, ledger, from, class, size)
 }
 
+// Kept: 33 is the number in the definition `first_class`, on which the theorems of heap_laws rest, so it is no Option.
 // The first class from `class` to `order` - 1 that has a block; 33 where none has.
 fn first_class(heads: &[u64; 33], class: u64, order: u64) -> u64
     requires { order ≤ 33 }

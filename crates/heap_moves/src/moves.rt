@@ -95,6 +95,7 @@ pub fn release_block(
     compared
 }
 
+// Kept: a walk over pieces, as `pieces` of frame_add has it and for the reason given there.
 // The n bytes from start on are cut into blocks up to class `top`, and each is pushed.
 pub fn push_pieces(heads: &mut [u64; 33], arena: &mut [u64], top: u64, start: u64, n: u64)
     requires { (top < 33) × (start + n < 2 ^ 64) }
