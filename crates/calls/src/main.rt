@@ -11,6 +11,7 @@ ghost use Rattle.calls.specs.Run.{printed, words_after, line_of, block_line, Too
 use answers::Answer;
 use frame_lines::Command;
 use grammar::BadLine;
+use lines::Held;
 use std::io;
 use std::io::Read;
 use texts::Output;
@@ -20,14 +21,6 @@ use texts::Output;
 enum Printed {
     Reply(Answer, bool),
     BadLine,
-}
-
-// The line at hand, of which no more than its first 81 bytes are held.
-#[derive(Drop)]
-struct Held {
-    bytes: [u8; 81],
-    len: usize,
-    ghost in_bounds: { len ≤ 81 },
 }
 
 // Runs the command that a line is on the table.

@@ -7,16 +7,9 @@ mod reading;
 ghost use Rattle.std.specs.Prelude.{◌≤◌};
 
 use heap_runs::Machine;
+use lines::Held;
 use std::io;
 use texts::Output;
-
-// The line at hand, of which no more than its first 81 bytes are held.
-#[derive(Drop)]
-struct Held {
-    bytes: [u8; 81],
-    len: usize,
-    ghost in_bounds: { len ≤ 81 },
-}
 
 fn main(rt: HostRuntime) -> io::Result<()> {
     let mut machine = Machine {

@@ -7,12 +7,12 @@ ghost use Rattle.heap_runs.specs.Running.{machine_of};
 ghost use Rattle.heap_runs.specs.Text.{is_long};
 ghost use Rattle.heap_calls.specs.Running.{line_after, ShownShort, Took, Stopped, Ended};
 
-use crate::Held;
 use heap_lines::command_of;
 use heap_listed::put_all;
 use heap_runs::{Lent, Machine};
 use heap_shown::put_printed;
 use heap_state::Heap;
+use lines::Held;
 use std::io;
 use std::io::Read;
 use texts::Output;

@@ -3,6 +3,8 @@
 
 #![tactic(auto)]
 
+ghost use Rattle.std.specs.Prelude.{◌≤◌};
+
 mod chunks;
 mod pieces;
 
@@ -16,4 +18,12 @@ pub struct Gathered {
     pub at: usize,
     pub len: usize,
     pub ended: bool,
+}
+
+// The line at hand, of which no more than its first 81 bytes are held: one more than a line may have.
+#[derive(Drop)]
+pub struct Held {
+    pub bytes: [u8; 81],
+    pub len: usize,
+    pub ghost in_bounds: { len ≤ 81 },
 }
