@@ -10,7 +10,7 @@ fn better(class: u64, low: u64, w: u64) -> bool
     requires { (class ≤ low) × (low ≤ 64) }
     ensures { result ≡ betterb class low w }
 {
-    std::num::wrapping_sub_u64(w >> 57, class) < low - class
+    (w >> 57).wrapping_sub(class) < low - class
 }
 
 // The place of the free block of the smallest class from `class` to `order` - 1, and in it of the lowest start, in one pass.

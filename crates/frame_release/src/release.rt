@@ -33,6 +33,7 @@ fn join(t: &[u64], i: usize) -> Span
         class: table::class_of(w),
         start: table::start_of(w),
     };
+    // Kept: the class is a part of the span that widens, and the loop ends early: a range would count beside it.
     while span.class < top {
         let buddy = blocks::buddy(span.start, span.class);
         let wanted = table::record_word(false, span.class, buddy);

@@ -1,9 +1,9 @@
 // Adding a range of bytes: the tests of the range, and its blocks pushed.
 ghost use Rattle.std.specs.Prelude.{◌≡◌, true, ◌*◌, ◌≤◌, ◌<◌, length};
 ghost use Rattle.heap_blocks.specs.Sound.{soundb};
-ghost use Rattle.heap_state.specs.State.{state, Says};
+ghost use Rattle.heap_state.specs.State.{state};
 ghost use Rattle.heap_add.specs.Adding.{adding};
-ghost use Rattle.heap_core.specs.Deciding.{carried};
+ghost use Rattle.heap_core.specs.Deciding.{Carries};
 ghost use Rattle.heap_add.specs.Parts.{adding_words};
 
 use answers::Refusal;
@@ -14,7 +14,7 @@ use heap_state::{Heap, Reply};
 // The bytes [start, end), rounded to words, are added to a sound heap.
 pub fn add_range(h: Heap, arena: &mut [u64], ledger: &[u64], start: u64, end: u64) -> Reply
     requires { soundb h arena.old ledger.now ≡ true }
-    ensures { Says (carried (state h arena.old ledger.now) (adding start end (state h arena.old ledger.now))) result arena.new ledger.now }
+    ensures { Carries (state h arena.old ledger.now) (adding start end (state h arena.old ledger.now)) result arena.new ledger.now }
 {
     let bytes = arena.len() as u64 * 8;
     if bytes < start {
@@ -44,7 +44,7 @@ pub fn add_range(h: Heap, arena: &mut [u64], ledger: &[u64], start: u64, end: u6
 // The bytes [from, to), whole words and not none, are added if none of them is there already.
 fn add_words(h: Heap, arena: &mut [u64], ledger: &[u64], from: u64, to: u64) -> Reply
     requires { (soundb h arena.old ledger.now ≡ true) × (from < to) × (to ≤ length arena.old * 8) }
-    ensures { Says (carried (state h arena.old ledger.now) (adding_words from to (state h arena.old ledger.now))) result arena.new ledger.now }
+    ensures { Carries (state h arena.old ledger.now) (adding_words from to (state h arena.old ledger.now)) result arena.new ledger.now }
 {
     if free_meets(&h.heads, arena, from, to) {
         return refused(h, Refusal::Overlap);

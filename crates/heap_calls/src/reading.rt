@@ -45,7 +45,7 @@ fn take_all(
     ensures stopped { OnErr result (Stopped chunk.now held.old.bytes held.old.len (machine_of machine.old) (machine_of machine.new)) }
 {
     let mut from = 0;
-    // Kept: it goes on from where `gather` stopped, and counts no index.
+    // Kept: a `for` over split pieces is no plainer, since a line begins in one chunk and ends in another: `gather` says where to go on.
     while from < chunk.len() {
         let len = held.len;
         let g = lines::gather(chunk, from, &mut held.bytes, len);

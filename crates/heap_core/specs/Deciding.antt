@@ -8,7 +8,8 @@ use Rattle.std.specs.Prelude.{Option, Some, None}
 use Rattle.blocks.specs.Blocks.{rounded_aligned}
 use Rattle.ledger.specs.Ledger.{Grant, grants, ledger_words}
 use Rattle.heap_state.specs.Lists.{Memory}
-use Rattle.heap_state.specs.State.{State, Outcome}
+use Rattle.heap_state.specs.declared.Reply.{Reply}
+use Rattle.heap_state.specs.State.{State, Outcome, Says}
 
 -- what a call decides on a sound heap: a refusal, or a value and the state afterwards
 abbrev pub Decision : Type 0
@@ -49,3 +50,7 @@ with_grants s m gs user allocated =
 abbrev pub carried : State → Decision → Outcome
 carried st (refused r) = record { number = number_of r; value = 0; state = st }
 carried st (done v after) = record { number = 0; value = v; state = after }
+
+-- the promise of a call on a sound heap: the reply and the words afterwards are what is decided
+abbrev pub Carries : State → Decision → Reply → List ℕ → List ℕ → Type 0
+Carries st d reply arena ledger = Says (carried st d) reply arena ledger

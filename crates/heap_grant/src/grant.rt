@@ -2,9 +2,9 @@
 ghost use Rattle.std.specs.Prelude.{◌≡◌, true, [], ◌-◌, ◌≤◌};
 ghost use Rattle.heap_state.specs.Lists.{first_class};
 ghost use Rattle.heap_blocks.specs.Sound.{soundb};
-ghost use Rattle.heap_state.specs.State.{state, Says};
+ghost use Rattle.heap_state.specs.State.{state};
 ghost use Rattle.heap_grant.specs.Granting.{granting};
-ghost use Rattle.heap_core.specs.Deciding.{carried};
+ghost use Rattle.heap_core.specs.Deciding.{Carries};
 ghost use Rattle.heap_grant.specs.Parts.{Grantable, grant_done};
 ghost use Rattle.heap_moves.specs.Moves.{mem};
 
@@ -15,7 +15,7 @@ use heap_state::{Heap, Reply};
 // All tests come before the first write, since a refused call changes no word.
 pub fn grant_bytes(h: Heap, arena: &mut [u64], ledger: &mut [u64], size: u64, align: u64) -> Reply
     requires { soundb h arena.old ledger.old ≡ true }
-    ensures { Says (carried (state h arena.old ledger.old) (granting size align (state h arena.old ledger.old))) result arena.new ledger.new }
+    ensures { Carries (state h arena.old ledger.old) (granting size align (state h arena.old ledger.old)) result arena.new ledger.new }
 {
     if !blocks::is_power_of_two(align) {
         return refused(h, Refusal::BadAlign);
@@ -58,7 +58,7 @@ fn grant_from(
     size: u64,
 ) -> Reply
     requires { Grantable (state h arena.old ledger.old) from class size }
-    ensures { Says (carried (state h arena.old ledger.old) (grant_done from class size (state h arena.old ledger.old))) result arena.new ledger.new }
+    ensures { Carries (state h arena.old ledger.old) (grant_done from class size (state h arena.old ledger.old)) result arena.new ledger.new }
 {
     let mut g = h;
     let answer = heap_moves::take_block(&mut g.heads, arena, from, class);

@@ -1,9 +1,9 @@
 // A granted block released, or cleared.
 ghost use Rattle.std.specs.Prelude.{◌≡◌, true};
 ghost use Rattle.heap_blocks.specs.Sound.{soundb};
-ghost use Rattle.heap_state.specs.State.{state, Says};
+ghost use Rattle.heap_state.specs.State.{state};
 ghost use Rattle.heap_release.specs.Releasing.{releasing, zeroing};
-ghost use Rattle.heap_core.specs.Deciding.{carried};
+ghost use Rattle.heap_core.specs.Deciding.{Carries};
 
 use answers::Refusal;
 use heap_core::{class_for, refused};
@@ -19,7 +19,7 @@ pub fn release_bytes(
     align: u64,
 ) -> Reply
     requires { soundb h arena.old ledger.old ≡ true }
-    ensures { Says (carried (state h arena.old ledger.old) (releasing address size align (state h arena.old ledger.old))) result arena.new ledger.new }
+    ensures { Carries (state h arena.old ledger.old) (releasing address size align (state h arena.old ledger.old)) result arena.new ledger.new }
 {
     if !blocks::is_power_of_two(align) {
         return refused(h, Refusal::BadAlign);
@@ -51,7 +51,7 @@ pub fn zero_bytes(
     align: u64,
 ) -> Reply
     requires { soundb h arena.old ledger.now ≡ true }
-    ensures { Says (carried (state h arena.old ledger.now) (zeroing address size align (state h arena.old ledger.now))) result arena.new ledger.now }
+    ensures { Carries (state h arena.old ledger.now) (zeroing address size align (state h arena.old ledger.now)) result arena.new ledger.now }
 {
     if !blocks::is_power_of_two(align) {
         return refused(h, Refusal::BadAlign);

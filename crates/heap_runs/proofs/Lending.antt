@@ -92,14 +92,3 @@ lists-sound class s head count e h k =
   where
     line_with : ℕ → List ℕ → List ℕ
     line_with n xs = (48 ∷ 32 ∷ decimal n) ++ addresses xs ++ line_feed
-
--- ---- a count of nodes
-
-pub count-end : (f : ℕ) (arena : List ℕ) (a : ℕ) → a ≡ 0 → length (nodes f arena a) ≡ 0
-count-end f arena a e = rw (e, nodes-end f arena) refl
-
-pub count_none : (f : ℕ) (arena : List ℕ) (a : ℕ) → f ≡ 0 → length (nodes f arena a) ≡ 0
-count_none f arena a e = rw (nodes-none f arena a (omega (arith, e))) refl
-
-pub count-step : (f : ℕ) (arena : List ℕ) (a : ℕ) → 0 < f → (a ≡ 0 → ⊥) → length (nodes f arena a) ≡ suc (length (nodes (f - 1) arena (next arena a)))
-count-step f arena a p q = ap (λ (xs : List ℕ). length xs) (nodes-step f (f - 1) arena a (omega arith) q)

@@ -7,21 +7,14 @@ ghost use Rattle.heap_runs.specs.Running.{machine_of, Does, Lists};
 use crate::{Machine, Printed};
 use answers::Refusal;
 use heap_lines::Command;
-use heap_reader::{first, following};
+use heap_reader::first;
 use heap_state::Heap;
+use linked_list::iter;
 
 fn count_nodes(head: u64, arena: &[u64]) -> usize
     ensures { result ≡ length (nodes (length arena.now) arena.now head) }
 {
-    let mut at = head;
-    for count in 0..arena.len() {
-        let step = following(arena, at, 0);
-        if step.node == 0 {
-            return count;
-        }
-        at = step.at;
-    }
-    arena.len()
+    iter(head, arena, arena.len()).count()
 }
 
 fn nodes_of(class: u64, heap: Heap, arena: &[u64], ledger: &[u64]) -> Printed

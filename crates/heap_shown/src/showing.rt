@@ -43,7 +43,7 @@ pub fn put_nodes(
 {
     let mut step = following(arena, head, 0);
     let mut left = most;
-    // Kept: it walks a list, and a walk that never ends is refused at its measure.
+    // Kept: the wrong program ring_walked_for_ever, a walk that never ends, is refused at its measure, which a `for` has not.
     while left > 0 && step.node != 0 {
         out.room(rt)?;
         out.put_with(b" ", step.node);

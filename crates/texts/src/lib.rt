@@ -9,6 +9,7 @@ mod waiting;
 pub use text::put;
 
 // A buffer, and the place in it after what waits to be written.
+// Kept: `Ready` is asked where it is needed and is no invariant, since `put` answers every buffer and every place.
 #[derive(Drop)]
 pub struct Output<'a> {
     pub bytes: &'a mut [u8],

@@ -6,4 +6,4 @@ use Rattle.frame_core.proofs.picking.better.Goals as goal
 pub returns : goal.returns
 returns c =
     let a = c.args in
-    one-test a.class a.low a.w c.wrapping_sub_u64.result (omega arith) (omega arith) c.ranges.w.fits (omega arith) c.wrapping_sub_u64.ensures.value
+    one-test a.class a.low a.w _ (omega arith) (omega arith) c.ranges.w.fits (omega arith) (omega (arith, c.ranges.w.fits))
