@@ -20,7 +20,7 @@ use Rattle.frame_add.specs.Adding.{adding}
 use Rattle.frame_grant.specs.Granting.{granting, granting_at}
 use Rattle.frame_release.specs.Releasing.{releasing}
 
--- a class that a count is rounded to is one of the table's, or stands for Above
+-- a class that a count is rounded to is one of the table's, or stands for None
 pub small : (n : ℕ) → wanted (rounded n) ≤ 33
 small n = go (rounding n)
   where
