@@ -66,6 +66,8 @@ fn run_line(rt: &impl Print, line: &[u8], t: &mut [u64], out: &mut Output) -> io
     Ok(())
 }
 
+// Kept: heap_calls has the like of the four functions from here. One for both would need a trait with what a line does, what it leaves on an error and what is
+// printed as its ghost members: more to read than the four.
 // Runs the lines that end in a chunk; what follows them is held.
 fn take_all(
     rt: &impl Print,

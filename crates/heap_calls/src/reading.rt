@@ -31,6 +31,7 @@ fn run_line(rt: &impl Print, line: &[u8], machine: &mut Machine, out: &mut Outpu
     put_printed(rt, printed, &machine.arena[..n], out)
 }
 
+// Kept: as in `calls`, and for the reason given there.
 // Runs the lines that end in a chunk; what follows them is held.
 fn take_all(
     rt: &impl Print,

@@ -46,6 +46,7 @@ pub fn free_meets(heads: &[u64; 33], arena: &[u64], start: u64, end: u64) -> boo
 }
 
 // Whether a granted block has a byte in [start, end), which is not empty.
+// Kept: the ledger comes with its count, as its caller and the definition `grants` have it.
 pub fn granted_meets(ledger: &[u64], count: u64, start: u64, end: u64) -> bool
     requires { (count ≤ length ledger.now) × (start < end) }
     ensures { result ≡ meets start end (map block_of (grants count ledger.now)) }
