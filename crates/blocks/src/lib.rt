@@ -24,6 +24,7 @@ pub fn size_of(class: u64) -> u64
     }
 }
 
+// Kept: 0 at 0 is a number in the definition `prev_power_of_two`, and `size_of` and `piece_size` have it likewise, so these are no Option.
 // The largest power of two that is at most num; 0 at 0, where the Rust stops.
 pub fn prev_power_of_two(num: u64) -> u64
     ensures { result ≡ prev_power_of_two num }

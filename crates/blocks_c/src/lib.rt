@@ -27,14 +27,11 @@ pub extern "C" fn lavikety_blocks_prev_power_of_two(num: u64) -> u64
     blocks::prev_power_of_two(num)
 }
 
-// Kept: C has no Option. A class as a number: 64 stands for None.
+// A class as a number, since C has no Option: 64 stands for None.
 fn class_number(r: Option<u64>) -> u64
     ensures { result ≡ class_number r }
 {
-    match r {
-        Some(k) => k,
-        None => 64,
-    }
+    r.unwrap_or(64)
 }
 
 #[unsafe(no_mangle)]
@@ -55,7 +52,7 @@ pub extern "C" fn lavikety_blocks_round_aligned(size: u64, align: u64) -> u64
 pub extern "C" fn lavikety_blocks_is_power_of_two(num: u64) -> u64
     ensures { result ≡ flag (is_power_of_two num) }
 {
-    if blocks::is_power_of_two(num) { 1 } else { 0 }
+    u64::from(blocks::is_power_of_two(num))
 }
 
 #[unsafe(no_mangle)]

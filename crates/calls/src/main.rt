@@ -16,6 +16,7 @@ use std::io;
 use std::io::Read;
 use texts::Output;
 
+// Kept: a bad line is one of the things that are printed and no error: the program goes on.
 // What a line prints: the reply of a call, with or without its value, or that it is no call.
 #[derive(Clone, Copy)]
 enum Printed {
@@ -66,8 +67,8 @@ fn run_line(rt: &impl Print, line: &[u8], t: &mut [u64], out: &mut Output) -> io
     Ok(())
 }
 
-// Kept: heap_calls has the like of the four functions from here. One for both would need a trait with what a line does, what it leaves on an error and what is
-// printed as its ghost members: more to read than the four.
+// Kept: heap_calls has the like of take_all, read_some, read_all, run_last and finish. One for both would need a trait with what a line does, what it leaves on an
+// error and what is printed as its ghost members: more to read than the five.
 // Runs the lines that end in a chunk; what follows them is held.
 fn take_all(
     rt: &impl Print,

@@ -4,7 +4,7 @@ ghost use Rattle.frame_lines.specs.Text.{reply_text, heading_text, record_text};
 
 use texts::Output;
 
-// Kept: it is promised of every number, also of one that no refusal has, so it takes numbers and no Answer.
+// Kept: its clause, `reply_text number value valued`, is of every number, also of one that no refusal has, so it takes no Answer.
 // The line of a reply: `no` and the number of a refusal, the value of an accepted call that answers one, or `ok`.
 pub fn put_reply(number: u64, value: u64, valued: bool, out: &mut Output)
     ensures { Puts (reply_text number value valued) out.old out.new }

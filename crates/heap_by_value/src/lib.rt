@@ -2,6 +2,8 @@
 
 #![tactic(auto)]
 
+// Kept: they promise what those of `heap` do, but by way of the record held in place: the rules ask for a plain-parameter function above each of those.
+
 ghost use Rattle.heap_state.specs.State.{state, Says};
 ghost use Rattle.heap.specs.Outcome.{Init, AddToHeap, Alloc, Dealloc, ZeroFill};
 ghost use Rattle.heap.specs.Told.{Told};

@@ -1,4 +1,5 @@
 // Blocks moved between the lists of a heap: those of an added range, of a grant, of a release.
+// Kept: heads and arena stay two parameters, since one call writes both and another reads the arena alone.
 // Kept: `class < 33` stands as it is in each contract, since it is the bound of an index into the 33 heads, which a name would hide.
 ghost use Rattle.std.specs.Prelude.{◌≡◌, ◌+◌, ◌-◌, ◌^◌, ◌≤◌, ◌<◌, length};
 ghost use Rattle.heap_state.specs.Lists.{push, pop, push_all, release};

@@ -46,7 +46,7 @@ pub fn free_meets(heads: &[u64; 33], arena: &[u64], start: u64, end: u64) -> boo
 }
 
 // Whether a granted block has a byte in [start, end), which is not empty.
-// Kept: the ledger comes with its count, as its caller and the definition `grants` have it.
+// Kept: the ledger comes with its count, since the promise speaks of `grants count ledger`.
 pub fn granted_meets(ledger: &[u64], count: u64, start: u64, end: u64) -> bool
     requires { (count ≤ length ledger.now) × (start < end) }
     ensures { result ≡ meets start end (map block_of (grants count ledger.now)) }

@@ -19,7 +19,7 @@ fn apart(a: u64, size: u64, b: u64, other: u64) -> bool
     other <= a - b
 }
 
-// Kept: `class < 64` stands as it is in each contract, since it is the bound of a shift.
+// Kept: `class < 64` stands as it is in each contract: it is the bound of a shift, and a name for it would be no shorter.
 // A block and the blocks of a class at these nodes.
 fn apart_from_list(class: u64, address: u64, other: u64, mut nodes: Nodes<'_>) -> bool
     requires { (class < 64) × (other < 64) }

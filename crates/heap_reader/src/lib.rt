@@ -11,7 +11,7 @@ pub use listing::nodes;
 pub use plain::{start_of, step_at};
 pub use reading::{advance, first, following, next, open};
 
-// Kept: the wrong programs step_after_a_refusal, promise_next_never_refused and promise_advance_forgets_the_refusal give a reader a refusal, so its number stays, and so does 0 for no node.
+// Kept: the wrong programs step_after_a_refusal, promise_next_never_refused and promise_advance_forgets_the_refusal give a reader a refusal, so its number stays; and 0 is no node in `step_at`, under YieldsTheList.
 // The address of the node to be yielded next, 0 where there is none, and 0 or the number of the refusal to read.
 #[derive(Clone, Copy)]
 pub struct Reader<'a> {

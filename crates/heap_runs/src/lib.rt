@@ -30,6 +30,7 @@ pub struct Machine {
     pub ghost records_fit: { lent.records ≤ 512 },
 }
 
+// Kept: a bad line is one of the things that are printed and no error: the program goes on.
 // What a line prints: a reply, the three figures, the nodes of a list by its head and their count, that something was set, or that it is no call.
 #[derive(Clone, Copy)]
 pub enum Printed {

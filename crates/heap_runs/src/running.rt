@@ -39,6 +39,7 @@ fn call_on(call: Call, lent: Lent, arena: &mut [u64], ledger: &mut [u64]) -> Rep
     called(call, lent.heap, &mut arena[..n], &mut ledger[..k])
 }
 
+// Kept: whole words and a count of them, since a part of an array in a field, lent to be written, leaves words that are not known afterwards.
 // Makes a heap over the first words of both.
 fn make_over(order: u64, n: usize, k: usize, arena: &[u64], ledger: &mut [u64]) -> Reply
     requires { (n ≤ length arena.now) × (k ≤ length ledger.old) }
@@ -95,6 +96,7 @@ impl Machine {
         let reply = make_over(order, n, k, &self.arena, &mut self.ledger);
         self.lent.heap = reply.heap;
         let answer = reply.answer;
+        // Kept: by its number, as the definition `after_making` asks it.
         if answers::number(answer) != 0 {
             return Printed::Reply(answer);
         }

@@ -1,5 +1,6 @@
 // The records of a ledger that is in order: one is found, entered and struck out.
-// Kept: the number of records stands beside the words, since the words behind them are zeros that each promise is about, too.
+// Kept: the number of records stands beside the words, since the promises of `enter` and `strike` are about the words behind them, too, and that of `find`
+// speaks of `grants count ledger`.
 ghost use Rattle.std.specs.Prelude.{◌≡◌, ◌++◌, suc, ◌^◌, ◌<◌, length, take, drop};
 ghost use Rattle.ledger.specs.Ledger.{grant, grant_of, grants, ledger_words, same};
 ghost use Rattle.ledger.specs.Ledger as ledger-spec;

@@ -7,7 +7,7 @@ use crate::Gathered;
 use crate::pieces::piece_end;
 use texts::put;
 
-// Kept: it is promised of every length, also of one that is no number of held bytes, so it takes no `Held`.
+// Kept: its clauses, `gathered` and `sets`, are of every buffer and every length, so it takes no `Held`.
 // Takes the bytes of a chunk from a place on, up to the next line feed, behind the len bytes of the line that are held already.
 pub fn gather(chunk: &[u8], from: usize, held: &mut [u8], len: usize) -> Gathered
     ensures value { result ≡ gathered (drop from chunk.now) from (length held.old) len }

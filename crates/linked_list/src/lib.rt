@@ -20,6 +20,7 @@ pub struct Taken {
     pub head: u64,
 }
 
+// Kept: the rules ask for the place of the previous link as an enum (docs/DECISIONS.md, "Language forms"), a head or a word.
 // The place of the link to a node: the list's head, or the word of the node at this address.
 #[derive(Clone, Copy)]
 pub enum Previous {

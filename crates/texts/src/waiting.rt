@@ -10,7 +10,7 @@ use std::io;
 // No piece of an output is longer, so that none is cut.
 const LONGEST: usize = 160;
 
-// Kept: the wrong programs digit_of_three_bits and letters_upper_case change its lines, and the library gives a digit as a char.
+// Kept: the wrong program letters_upper_case changes its line, and the library gives a digit as a char.
 fn digit(value: u64) -> u8
     requires { value < 16 }
     ensures { result ≡ hex_digit value }
