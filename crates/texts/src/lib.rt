@@ -7,6 +7,7 @@ mod text;
 mod waiting;
 
 pub use text::put;
+pub use waiting::room;
 
 // A buffer, and the place in it after what waits to be written.
 // Kept: `Ready` is asked where it is needed and is no invariant, since `put` answers every buffer and every place.

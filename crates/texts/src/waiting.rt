@@ -22,6 +22,21 @@ fn digit(value: u64) -> u8
     }
 }
 
+// Writes the output that waits where a piece might have no room behind it, and answers the place for the next piece.
+// An error is the stream's, where something had to be written; nothing that was lent changes.
+pub fn room(rt: &impl Print, out: &[u8], at: usize) -> io::Result<usize>
+    requires at_in_bounds { at ≤ length out.now }
+    requires in_bounds { 160 ≤ length out.now }
+    ensures made { IfOk result (λ place. place + 160 ≤ length out.now) }
+    ensures no_error { at + 160 ≤ length out.now → IsOkAnd result (λ place. place ≡ at) }
+{
+    if out.len() - at < LONGEST {
+        rt.write_all(&out[..at])?;
+        return Ok(0);
+    }
+    Ok(at)
+}
+
 impl Output<'_> {
     // Puts text at the place, and goes on to the place after it.
     pub fn put(&mut self, text: &[u8])
@@ -72,10 +87,14 @@ impl Output<'_> {
         self.put(&digits);
     }
 
-    fn write(&self, rt: &impl Print) -> io::Result<()>
-        requires { self.now.at ≤ length self.now.bytes.now }
+    // Kept: the buffer is lent here, where it is only read: lent in `room`, its bytes would not be known afterwards.
+    // The place where there is room.
+    fn free(&self, rt: &impl Print) -> io::Result<usize>
+        requires { Ready self.now }
+        ensures made { IfOk result (λ place. place + 160 ≤ length self.now.bytes.now) }
+        ensures no_error { self.now.at + 160 ≤ length self.now.bytes.now → IsOkAnd result (λ place. place ≡ self.now.at) }
     {
-        rt.write_all(&self.bytes[..self.at])
+        room(rt, self.bytes, self.at)
     }
 
     // Writes the output that waits where a piece might have no room behind it.
@@ -88,10 +107,7 @@ impl Output<'_> {
         ensures place_left { OnErr result (self.new.at ≡ self.old.at) }
         ensures ready { StillReady self.old self.new }
     {
-        if self.bytes.len() - self.at < LONGEST {
-            self.write(rt)?;
-            self.at = 0;
-        }
+        self.at = self.free(rt)?;
         Ok(())
     }
 }
