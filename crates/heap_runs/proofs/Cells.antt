@@ -6,14 +6,15 @@ use mathlib.Core.List.{List}
 use mathlib.Core.Path.{◌≡◌, refl, ap, ◌∙◌}
 use Prim.Native.Nat.{ℕ}
 use lib.Dec.{ltb}
-use lib.ListN.{take, set}
+use lib.ListN.{length, take, set}
 use Rattle.heap_state.specs.declared.Heap.{Heap}
 use Rattle.heap_lines.specs.declared.Cell.{Cell}
 use Rattle.heap_lines.specs.declared.Cell.TheVariants.{Arena, Ledger, Head}
 use Rattle.heap_lines.specs.declared.Command.TheVariants.{Set as Setting}
+use Rattle.heap_runs.specs.declared.Lent.{Lent}
 use Rattle.heap_runs.specs.declared.Printed.{Printed}
 use Rattle.heap_runs.specs.declared.Printed.TheVariants.{Set, BadLine}
-use Rattle.heap_runs.specs.Run.{Machine, machine, with_heap, inside, heap_with, with_cell, after}
+use Rattle.heap_runs.specs.Run.{Machine, machine, Fits, with_heap, inside, heap_with, with_cell, after}
 use Rattle.texts.specs.Text.{bad_line}
 use Rattle.heap_runs.specs.Text.{set_line, line_of, by_node, printed}
 use Rattle.heap_runs.specs.Running.{Does}
@@ -35,6 +36,11 @@ does-set cell value m left line p q =
       line_is = ap (line_of (take left.lent.words left.arena)) q ∙ line-of (inside cell m.lent) (take left.lent.words left.arena);
       long_is = ap by_node q ∙ short (inside cell m.lent);
     }
+
+-- words put over as many, and the record put anew over as many words
+pub fits-set : (lent : Lent) (arena ledger : List ℕ) → Fits lent arena ledger → (heap : Heap) (arena' ledger' : List ℕ) → length arena' ≡ length arena → length ledger' ≡ length ledger
+    → Fits (with_heap heap lent) arena' ledger'
+fits-set lent arena ledger f heap arena' ledger' p q = record { arena_is = p ∙ f.arena_is; ledger_is = q ∙ f.ledger_is; words_fit = f.words_fit; records_fit = f.records_fit }
 
 -- a word of one of the two
 pub does-arena : (i value : ℕ) (m : Machine) (line : Printed) (arena : List ℕ) → line ≡ cond (ltb i m.lent.words) Set BadLine

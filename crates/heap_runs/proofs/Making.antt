@@ -13,12 +13,13 @@ use Rattle.heap_state.specs.declared.Heap.{Heap}
 use Rattle.heap_state.specs.declared.Reply.{Reply}
 use Rattle.heap_lines.specs.declared.Command.TheVariants.{Make}
 use Rattle.heap_runs.specs.declared.Lent.{Lent}
-use Rattle.heap_runs.specs.declared.Printed.TheVariants.{Reply as Printed·reply, BadLine}
+use Rattle.heap_runs.specs.declared.Printed.TheVariants.{BadLine}
+use Rattle.heap_runs.specs.declared.Ran.{Ran}
 use Rattle.heap_runs.specs.Run.{machine, with_heap, lending, too_many, made, after_making, after}
 use Rattle.texts.specs.Text.{bad_line}
 use Rattle.heap_runs.specs.Text.{outcome_text, line_of, printed}
-use Rattle.heap_runs.specs.Running.{Does}
-use Rattle.heap_runs.proofs.Lending.{whole, reply-line}
+use Rattle.heap_runs.specs.Running.{Does, replied_with}
+use Rattle.heap_runs.proofs.Lending.{reply-line, replied-line, replied-short}
 
 -- ---- making looks at the arena's length alone
 
@@ -56,17 +57,17 @@ module _ (order words records : ℕ) (lent : Lent) (arena ledger : List ℕ) whe
       }
 
   module _
-      (few : too_many words records ≡ false) (long : length (take words arena) ≡ words) (reply : Reply) (ledger' : List ℕ)
-      (says : Says (making order (take words arena) (take records ledger)) reply (take words arena) (take records ledger')) (rest : drop records ledger' ≡ drop records ledger)
-      (n : ℕ) (number : n ≡ (paper reply.answer).number)
+      (r : Ran) (few : too_many words records ≡ false) (whole : length (take words arena) ≡ words) (reply : Reply) (ledger' : List ℕ)
+      (says : Says (making order (take words arena) (take records ledger)) reply (take words arena) ledger') (n : ℕ) (number : n ≡ (paper reply.answer).number)
     where
       same : made order words records (machine lent arena ledger) ≡ over (replicate words 0) (making order (take words arena) (take records ledger))
-      same = making-over order (replicate words 0) (take words arena) (take records ledger) (length-replicate words 0 ∙ sym long)
+      same = making-over order (replicate words 0) (take words arena) (take records ledger) (length-replicate words 0 ∙ sym whole)
 
-      line : (arena' : List ℕ) → line_of arena' (Printed·reply reply.answer) ≡ printed (Ok (Make order words records)) (machine lent arena ledger)
+      line : (arena' : List ℕ) (w k : ℕ) → r ≡ replied_with reply w k → line_of (take r.lent.words arena') r.line ≡ printed (Ok (Make order words records)) (machine lent arena ledger)
       unfolding printed
-      line arena' =
-          reply-line (making order (take words arena) (take records ledger)) reply (take words arena) (take records ledger') says
+      line arena' w k e =
+          replied-line r reply w k arena' e
+          ∙ reply-line (making order (take words arena) (take records ledger)) reply (take words arena) ledger' says
           ∙ sym (ap outcome_text same)
           ∙ sym (ap (λ (t : Bool). cond t bad_line (outcome_text (made order words records (machine lent arena ledger)))) few)
 
@@ -81,36 +82,39 @@ module _ (order words records : ℕ) (lent : Lent) (arena ledger : List ℕ) whe
       its-number : (made order words records (machine lent arena ledger)).number ≡ n
       its-number = ap (λ (o : Outcome). o.number) same ∙ sym says.number_is ∙ sym number
 
-      pub does-refused : (n ≡ 0 → ⊥) → Does (Ok (Make order words records)) (machine lent arena ledger) (machine (with_heap reply.heap lent) arena ledger') (Printed·reply reply.answer)
-      does-refused h =
-          let kept : take records ledger' ≡ take records ledger =
+      pub does-refused : (n ≡ 0 → ⊥) → r ≡ replied_with reply lent.words lent.records
+          → Does (Ok (Make order words records)) (machine lent arena ledger) (machine r.lent arena (ledger' ++ drop records ledger)) r.line
+      does-refused h e =
+          let kept : ledger' ≡ take records ledger =
           ap (λ (s : State). s.ledger) says.state_is
           ∙ making-keeps order (take words arena) (take records ledger) (λ z. h (number ∙ says.number_is ∙ z)) in
           let heap : reply.heap ≡ (made order words records (machine lent arena ledger)).state.heap =
           ap (λ (s : State). s.heap) says.state_is ∙ sym (ap (λ (o : Outcome). o.state.heap) same) in
           record {
             machine_is =
-                ap (λ (l : List ℕ). machine (with_heap reply.heap lent) arena l)
-                (whole records ledger' ledger rest ∙ ap (λ (l : List ℕ). l ++ drop records ledger) kept ∙ take-append-drop records ledger)
+                ap (λ (x : Ran). machine x.lent arena (ledger' ++ drop records ledger)) e
+                ∙ ap (λ (l : List ℕ). machine (with_heap reply.heap lent) arena l) (ap (λ (l : List ℕ). l ++ drop records ledger) kept ∙ take-append-drop records ledger)
                 ∙ ap (λ (g : Heap). machine (with_heap g lent) arena ledger) heap
                 ∙ sym (left false (ne_eqb _ 0 (λ z. h (sym its-number ∙ z))));
-            line_is = line (take lent.words arena);
-            long_is = refl;
+            line_is = line arena lent.words lent.records e;
+            long_is = replied-short r reply lent.words lent.records e;
           }
 
-      pub does-make : n ≡ 0 → (arena' : List ℕ) → arena' ≡ replicate words 0 ++ drop words arena
-          → Does (Ok (Make order words records)) (machine lent arena ledger) (machine (record { heap = reply.heap; words = words; records = records }) arena' ledger') (Printed·reply reply.answer)
-      does-make h arena' z =
-          let it : state reply.heap (replicate words 0) (take records ledger') ≡ (made order words records (machine lent arena ledger)).state =
-          ap (λ (s : State). state s.heap (replicate words 0) s.ledger) says.state_is
+      pub does-make : n ≡ 0 → r ≡ replied_with reply words records → (cleared : List ℕ) → cleared ≡ replicate (length (take words arena)) 0
+          → Does (Ok (Make order words records)) (machine lent arena ledger) (machine r.lent (cleared ++ drop words arena) (ledger' ++ drop records ledger)) r.line
+      does-make h e cleared z =
+          let zeros : cleared ≡ replicate words 0 = z ∙ ap (λ (k : ℕ). replicate k 0) whole in
+          let it : state reply.heap cleared ledger' ≡ (made order words records (machine lent arena ledger)).state =
+          ap (λ (a : List ℕ). state reply.heap a ledger') zeros
+          ∙ ap (λ (s : State). state s.heap (replicate words 0) s.ledger) says.state_is
           ∙ sym (ap (λ (o : Outcome). o.state) same) in
           record {
             machine_is =
-                (λ i. machine (record { heap = reply.heap; words = words; records = records }) (z i) (whole records ledger' ledger rest i))
+                ap (λ (x : Ran). machine x.lent (cleared ++ drop words arena) (ledger' ++ drop records ledger)) e
                 ∙ ap (λ (s : State). lending words records s (machine lent arena ledger)) it
                 ∙ sym (left true (eq-eqb _ 0 (its-number ∙ h)));
-            line_is = line (take words arena');
-            long_is = refl;
+            line_is = line (cleared ++ drop words arena) words records e;
+            long_is = replied-short r reply words records e;
           }
 
 -- ---- how many is too many

@@ -1,5 +1,5 @@
 -- What a command leaves, from docs/RULES.md, "The lines of `heap_calls`".
-use Rattle.std.specs.Prelude.{Bool, true, cond, ◌||◌, List, ◌++◌, ℕ, eqb, ltb, take, drop, set, replicate, Result, Ok, Err}
+use Rattle.std.specs.Prelude.{Bool, true, cond, ◌||◌, List, ◌++◌, ◌≡◌, ℕ, ◌≤◌, eqb, ltb, length, take, drop, set, replicate, Result, Ok, Err}
 use Rattle.heap_state.specs.State.{State, state, Outcome, fresh_heap, making}
 use Rattle.heap_state.specs.declared.Heap.{Heap}
 use Rattle.heap.specs.Outcome as heap
@@ -24,6 +24,13 @@ machine lent arena ledger = record { lent = lent; arena = arena; ledger = ledger
 -- "At first the record is zeros and nothing is lent."
 abbrev pub nothing_lent : Lent
 nothing_lent = record { heap = fresh_heap 0; words = 0; records = 0 }
+
+-- "over an arena of 4,096 words and a ledger of 512 of its own"
+pub record Fits (lent : Lent) (arena ledger : List ℕ) : Type 0 where
+  pub arena_is : length arena ≡ 4096
+  pub ledger_is : length ledger ≡ 512
+  pub words_fit : lent.words ≤ 4096
+  pub records_fit : lent.records ≤ 512
 
 -- the heap over the words that are lent
 abbrev pub lent_state : Machine → State

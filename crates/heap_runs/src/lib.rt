@@ -11,6 +11,7 @@ ghost use Rattle.std.specs.Prelude.{◌≤◌};
 
 use answers::Answer;
 use heap_state::Heap;
+pub use running::run;
 
 // The heap record, and how many words of the arena and of the ledger are lent.
 #[derive(Clone, Copy)]
@@ -39,4 +40,11 @@ pub enum Printed {
     Nodes(u64, usize),
     Set,
     BadLine,
+}
+
+// What a command leaves and prints.
+#[derive(Clone, Copy)]
+pub struct Ran {
+    pub lent: Lent,
+    pub line: Printed,
 }

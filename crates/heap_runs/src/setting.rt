@@ -1,9 +1,9 @@
 // Words and fields put past every rule.
 ghost use Rattle.std.specs.Prelude.{cond, ◌≡◌, ◌≤◌, ltb, length, set, Ok};
-ghost use Rattle.heap_runs.specs.Run.{heap_with};
-ghost use Rattle.heap_runs.specs.Running.{machine_of, Does};
+ghost use Rattle.heap_runs.specs.Run.{machine, heap_with, Fits};
+ghost use Rattle.heap_runs.specs.Running.{Does};
 
-use crate::{Machine, Printed};
+use crate::{Lent, Printed, Ran};
 use heap_lines::{Cell, Command};
 use heap_state::Heap;
 
@@ -30,27 +30,44 @@ fn set_word(at: u64, word: u64, most: usize, words: &mut [u64]) -> Printed
     Printed::Set
 }
 
-impl Machine {
-    // Puts what a line asks for, where it is within what is lent.
-    pub(crate) fn set(&mut self, cell: Cell, value: u64) -> Printed
-        ensures { Does (Ok (Command.Set cell value)) (machine_of self.old) (machine_of self.new) result }
-    {
-        let lent = self.lent;
-        match cell {
-            Cell::Arena(at) => return set_word(at, value, lent.words, &mut self.arena),
-            Cell::Ledger(at) => return set_word(at, value, lent.records, &mut self.ledger),
-            Cell::Head(class) => {
-                let mut heap = lent.heap;
-                let line = set_head(class, value, &mut heap);
-                self.lent.heap = heap;
-                return line;
-            }
-            Cell::Count => self.lent.heap.count = value,
-            Cell::User => self.lent.heap.user = value,
-            Cell::Allocated => self.lent.heap.allocated = value,
-            Cell::Total => self.lent.heap.total = value,
-            Cell::Order => self.lent.heap.order = value,
+// Puts what a line asks for, where it is within what is lent.
+pub(crate) fn set(cell: Cell, value: u64, lent: Lent, arena: &mut [u64], ledger: &mut [u64]) -> Ran
+    requires { Fits lent arena.old ledger.old }
+    ensures does { Does (Ok (Command.Set cell value)) (machine lent arena.old ledger.old) (machine result.lent arena.new ledger.new) result.line }
+    ensures fits { Fits result.lent arena.new ledger.new }
+{
+    let mut heap = lent.heap;
+    let line = match cell {
+        Cell::Arena(at) => set_word(at, value, lent.words, arena),
+        Cell::Ledger(at) => set_word(at, value, lent.records, ledger),
+        Cell::Head(class) => set_head(class, value, &mut heap),
+        Cell::Count => {
+            heap.count = value;
+            Printed::Set
         }
-        Printed::Set
+        Cell::User => {
+            heap.user = value;
+            Printed::Set
+        }
+        Cell::Allocated => {
+            heap.allocated = value;
+            Printed::Set
+        }
+        Cell::Total => {
+            heap.total = value;
+            Printed::Set
+        }
+        Cell::Order => {
+            heap.order = value;
+            Printed::Set
+        }
+    };
+    Ran {
+        lent: Lent {
+            heap,
+            words: lent.words,
+            records: lent.records,
+        },
+        line,
     }
 }

@@ -1,43 +1,51 @@
 // The list of a class, read from its head on.
-ghost use Rattle.std.specs.Prelude.{◌≡◌, get_or, length, Ok};
+ghost use Rattle.std.specs.Prelude.{◌≡◌, length, Ok};
 ghost use Rattle.heap_state.specs.State.{state};
 ghost use Rattle.linked_list.specs.Links.{nodes};
-ghost use Rattle.heap_runs.specs.Running.{machine_of, Does, Lists};
+ghost use Rattle.heap_runs.specs.Run.{machine, Fits};
+ghost use Rattle.heap_runs.specs.Running.{Does, Lists};
 
-use crate::{Machine, Printed};
+use crate::{Lent, Printed, Ran};
+use answers::Refusal;
 use heap_lines::Command;
+use heap_reader::{first, following};
 use heap_state::Heap;
-use linked_list::iter;
 
 fn count_nodes(head: u64, arena: &[u64]) -> usize
     ensures { result ≡ length (nodes (length arena.now) arena.now head) }
 {
-    iter(head, arena, arena.len()).count()
-}
-
-// The head of a class's list; a class without a list has none.
-fn head_of(heads: &[u64; 33], class: u64) -> u64
-    ensures { result ≡ get_or heads.now class 0 }
-{
-    if class < 33 { heads[class as usize] } else { 0 }
+    let mut at = head;
+    let mut count = 0;
+    // Kept: the reader's own steps are counted, which no iterator takes.
+    while count < arena.len() {
+        let step = following(arena, at, 0);
+        if step.node == 0 {
+            return count;
+        }
+        count += 1;
+        at = step.at;
+    }
+    count
 }
 
 fn nodes_of(class: u64, heap: Heap, arena: &[u64], ledger: &[u64]) -> Printed
     ensures { Lists class (state heap arena.now ledger.now) result }
 {
-    if let Err(refusal) = heap_reader::nodes(heap, arena, ledger, class) {
-        return Printed::Reply(Err(refusal));
+    let start = first(heap, arena, ledger, class);
+    // Kept: by its number, as the theorems on the reader say it.
+    if start.number != 0 {
+        return Printed::Reply(Err(Refusal::BadState));
     }
-    let head = head_of(&heap.heads, class);
-    Printed::Nodes(head, count_nodes(head, arena))
+    Printed::Nodes(start.node, count_nodes(start.node, arena))
 }
 
-impl Machine {
-    pub(crate) fn list(&self, class: u64) -> Printed
-        ensures { Does (Ok (Command.List class)) (machine_of self.now) (machine_of self.now) result }
-    {
-        let n = self.lent.words;
-        let k = self.lent.records;
-        nodes_of(class, self.lent.heap, &self.arena[..n], &self.ledger[..k])
-    }
+pub(crate) fn list(class: u64, lent: Lent, arena: &[u64], ledger: &[u64]) -> Ran
+    requires { Fits lent arena.now ledger.now }
+    ensures does { Does (Ok (Command.List class)) (machine lent arena.now ledger.now) (machine result.lent arena.now ledger.now) result.line }
+    ensures fits { Fits result.lent arena.now ledger.now }
+{
+    let n = lent.words;
+    let k = lent.records;
+    let line = nodes_of(class, lent.heap, &arena[..n], &ledger[..k]);
+    Ran { lent, line }
 }

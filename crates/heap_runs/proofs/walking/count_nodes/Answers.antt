@@ -1,23 +1,41 @@
--- `heap_runs::walking::count_nodes` meets its contract: the iterator is drained, and it yields the list. Assumes nothing.
-use mathlib.Core.Path.{◌≡◌, refl, sym, ap, ◌∙◌}
-use mathlib.Core.Logic.{inl}
-use mathlib.Core.List.{List, map}
-use Prim.Native.Nat.{ℕ, ◌<◌, ◌^◌}
+-- `heap_runs::walking::count_nodes` meets its contract: the loop's invariant is that the nodes so far and those to come are the list's. Assumes nothing.
+use Rattle.heap_runs.proofs.Lending.{count-end, count_none, count-step}
+use Prim.Native.Nat.{ℕ, suc, ◌+◌, ◌-◌}
+use mathlib.Core.Path.{◌≡◌, sym, ap, ◌∙◌}
 use native.Mathlib.Omega.{arith}
-use borrow.Author.Rules.{rules}
-use lib.ListN.{length, length-map}
-use Rattle.std.proofs.lemmas.Iterator.{items_from_drains}
-use Rattle.std.proofs.lemmas.Iterator.Consumers.{YieldsList-from_first}
-use Rattle.linked_list.proofs.Chains.{nodes-few}
+use lib.ListN.{length}
+use Rattle.linked_list.specs.Links.{next, nodes}
+use Rattle.heap_reader.specs.Reading.{step_at}
+use Rattle.heap_reader.specs.declared.Step.{Step}
+use Rattle.heap_reader.proofs.Yielding.{yields_none, yields-node}
 use Rattle.heap_runs.proofs.walking.count_nodes.Goals as goal
 
-pub count-requires-clause-fits : goal.count-requires-clause-fits
-count-requires-clause-fits c =
-    let long : length c.args.arena.now < 2 ^ 64 = search rules in
-    inl (rw c.iter.ensures (omega (arith, nodes-few (length c.args.arena.now) c.args.arena.now c.args.head)))
+pub loop-count-init : goal.loop-count-init
+loop-count-init c =
+    let a = c.args in
+    let all : length a.arena.now - 0 ≡ length a.arena.now = omega arith in
+    (omega arith, omega (arith, ap (λ (k : ℕ). length (nodes k a.arena.now a.head)) all))
+
+pub returns-then-step-eq0 : goal.returns-then-step-eq0
+returns-then-step-eq0 c =
+    let l = c.loop-count in
+    let a = c.args in
+    let n : (step_at a.arena.now l.at 0).node ≡ 0 = sym (ap (λ (s : Step). s.node) c.following-step.ensures) ∙ omega (arith, c.if-step-eq0.true) in
+    omega (arith, l.invariant.1, count-end (length a.arena.now - l.count) a.arena.now l.at (yields_none a.arena.now l.at n))
+
+pub loop-count-preserved : goal.loop-count-preserved
+loop-count-preserved c =
+    let l = c.loop-count in
+    let a = c.args in
+    let e = c.following-step.ensures in
+    let y = yields-node a.arena.now l.at (λ z. omega (arith, z, ap (λ (s : Step). s.node) e, c.if-step-eq0.false)) in
+    let step = count-step (length a.arena.now - l.count) a.arena.now l.at (omega arith) y.0 in
+    let fewer : length a.arena.now - l.count - 1 ≡ length a.arena.now - (l.count + 1) = omega arith in
+    let node : c.following-step.result.at ≡ next a.arena.now l.at = ap (λ (s : Step). s.at) e ∙ y.1 in
+    (omega arith, omega (arith, l.invariant.1, step ∙ (λ i. suc (length (nodes (fewer i) a.arena.now (sym node i))))))
 
 pub returns : goal.returns
 returns c =
-    let d = c.count.ensures.ran in
-    let all = items_from_drains d.0 (d.1.1.0, d.1.1.1, λ w. (d.1.0, d.1.1.2)) (YieldsList-from_first (λ (x : ℕ). x) (λ (s : List ℕ). s) c.iter.result refl) in
-    d.2 ∙ sym (length-map d.0 (λ (x : ℕ). x)) ∙ ap length all ∙ ap length c.iter.ensures
+    let l = c.loop-count in
+    let a = c.args in
+    omega (arith, l.invariant.1, count_none (length a.arena.now - l.count) a.arena.now l.at (omega arith))
