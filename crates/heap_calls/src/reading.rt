@@ -138,7 +138,7 @@ pub(crate) fn finish(
     ensures { Ended held.now.bytes held.now.len (machine_of machine.old) (machine_of machine.new) }
 {
     run_last(rt, held, machine, out)?;
-    put_all(rt, machine, out)?;
+    put_all(rt, machine.lent, &machine.arena, &machine.ledger, out)?;
     let end = out.at;
     rt.write_all(&out.bytes[..end])
 }

@@ -1,8 +1,9 @@
 // What is printed at the end: the record, the lists of a sound heap, and each lent word that is not zero.
 ghost use Rattle.texts.specs.Output.{Puts, Ready, StillReady};
 ghost use Rattle.heap_listed.specs.Listing.{record_text, word_text};
+ghost use Rattle.heap_runs.specs.Run.{Fits};
 
-use heap_runs::Machine;
+use heap_runs::Lent;
 use heap_shown::put_nodes;
 use heap_state::Heap;
 use std::io;
@@ -110,13 +111,20 @@ fn put_words(rt: &impl Print, name: &[u8], words: &[u64], out: &mut Output) -> i
 }
 
 // Prints all that is lent.
-pub fn put_all(rt: &impl Print, machine: &Machine, out: &mut Output) -> io::Result<()>
-    requires { Ready out.old }
+pub fn put_all(
+    rt: &impl Print,
+    lent: Lent,
+    arena: &[u64],
+    ledger: &[u64],
+    out: &mut Output,
+) -> io::Result<()>
+    requires fits { Fits lent arena.now ledger.now }
+    requires ready { Ready out.old }
     ensures { StillReady out.old out.new }
 {
-    let heap = machine.lent.heap;
-    let arena = &machine.arena[..machine.lent.words];
-    let ledger = &machine.ledger[..machine.lent.records];
+    let heap = lent.heap;
+    let arena = &arena[..lent.words];
+    let ledger = &ledger[..lent.records];
     out.room(rt)?;
     put_record(heap, out);
     put_heads(rt, heap, out)?;
