@@ -16,7 +16,7 @@ fn count_nodes(head: u64, arena: &[u64]) -> usize
 {
     let mut at = head;
     let mut count = 0;
-    // Kept: the reader's own steps are counted, which no iterator takes.
+    // Kept: over the library's `successors` of the reader's steps a search does not find the count, and each node would be asked for twice.
     while count < arena.len() {
         let step = following(arena, at, 0);
         if step.node == 0 {
