@@ -1,3 +1,4 @@
 pub mod Lending
 pub mod Making
+pub mod Counting
 pub mod Cells

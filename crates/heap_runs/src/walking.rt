@@ -10,22 +10,15 @@ use answers::Refusal;
 use heap_lines::Command;
 use heap_reader::{first, following};
 use heap_state::Heap;
+use std::iter::successors;
 
 fn count_nodes(head: u64, arena: &[u64]) -> usize
     ensures { result ≡ length (nodes (length arena.now) arena.now head) }
 {
-    let mut at = head;
-    let mut count = 0;
-    // Kept: over the library's `successors` of the reader's steps a search does not find the count, and each node would be asked for twice.
-    while count < arena.len() {
-        let step = following(arena, at, 0);
-        if step.node == 0 {
-            return count;
-        }
-        count += 1;
-        at = step.at;
-    }
-    count
+    successors(Some(head), |at| Some(following(arena, *at, 0).at))
+        .take(arena.len())
+        .take_while(|at| *at != 0)
+        .count()
 }
 
 fn nodes_of(class: u64, heap: Heap, arena: &[u64], ledger: &[u64]) -> Printed
