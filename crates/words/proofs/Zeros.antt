@@ -1,6 +1,6 @@
 -- Words that are zero: what the test says, and words or-ed one by one. Assumes nothing.
 use mathlib.Core.Path.{◌≡◌, refl, sym, ap, ◌∙◌}
-use mathlib.Core.Bool.{true, ◌&&◌, and-true, and_assoc}
+use mathlib.Core.Bool.{Bool, true, ◌&&◌, and-true, and_assoc}
 use mathlib.Core.List.{List, [], ◌∷◌, ◌++◌}
 use Prim.Native.Nat.{ℕ, zero, suc, ◌+◌, ◌<◌}
 use native.Mathlib.Numerals.{add-one}
@@ -44,7 +44,21 @@ pub row-or : (ws : List ℕ) (i row : ℕ) → i < length ws → eqb row 0 ≡ z
 row-or ws i row h r =
     rw (either-zero row (get_or ws i 0), r, add-one, take-suc ws i 0 h, zeros-append (take i ws) (get_or ws i 0 ∷ []), and-true)
 
--- both halves
-pub two-rows : (ws : List ℕ) (half a b : ℕ) → eqb a 0 ≡ zerosb (take half ws) → eqb b 0 ≡ zerosb (drop half ws) → eqb (bit_or a b) 0 ≡ zerosb ws
-two-rows ws half a b p q =
-    rw (either-zero a b, p, q) (sym (zeros-append (take half ws) (drop half ws)) ∙ ap zerosb (take-append-drop half ws))
+-- three rows at once
+pub three-rows : (a b c : ℕ) (x y z : Bool) → eqb a 0 ≡ x → eqb b 0 ≡ y → eqb c 0 ≡ z → eqb (bit_or (bit_or a b) c) 0 ≡ x && (y && z)
+three-rows a b c x y z p q r = rw (either-zero (bit_or a b) c, either-zero a b, p, q, r) (and_assoc x y z)
+
+-- words in two parts
+pub zeros-split : (ws : List ℕ) (n : ℕ) → zerosb ws ≡ zerosb (take n ws) && zerosb (drop n ws)
+zeros-split ws n = ap zerosb (sym (take-append-drop n ws)) ∙ zeros-append (take n ws) (drop n ws)
+
+-- words in four parts
+pub parted : (ws first others second rest last tail : List ℕ) (n : ℕ) → first ≡ take n ws → others ≡ drop n ws → second ≡ take n others → rest ≡ drop n others
+    → last ≡ take n rest → tail ≡ drop n rest → zerosb ws ≡ (zerosb first && (zerosb second && zerosb last)) && zerosb tail
+parted ws first others second rest last tail n p o q r s t =
+    zeros-split ws n ∙ (λ i. zerosb (sym p i) && zerosb (sym o i))
+    ∙ ap (λ (u : Bool). zerosb first && u)
+    (zeros-split others n ∙ (λ i. zerosb (sym q i) && zerosb (sym r i))
+    ∙ ap (λ (u : Bool). zerosb second && u) (zeros-split rest n ∙ (λ i. zerosb (sym s i) && zerosb (sym t i))))
+    ∙ ap (λ (u : Bool). zerosb first && u) (sym (and_assoc (zerosb second) (zerosb last) (zerosb tail)))
+    ∙ sym (and_assoc (zerosb first) (zerosb second && zerosb last) (zerosb tail))
