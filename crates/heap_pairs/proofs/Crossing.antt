@@ -1,17 +1,20 @@
 -- Blocks compared in pairs, at the loops' numbers. Assumes nothing.
 use mathlib.Core.Path.{◌≡◌, refl, sym, ap, ◌∙◌}
 use mathlib.Core.Bool.{Bool, true, ◌&&◌, ◌||◌, and_assoc, or-false}
-use mathlib.Core.List.{List, [], ◌∷◌, ◌++◌, map, append_assoc}
-use Prim.Native.Nat.{ℕ, ◌+◌, ◌-◌, ◌≤◌, ◌<◌}
+use mathlib.Core.List.{List, [], ◌∷◌, ◌++◌, append_assoc}
+use Prim.Native.Nat.{ℕ, suc, ◌+◌, ◌-◌, ◌≤◌, ◌<◌}
 use native.Mathlib.Omega.{arith}
 use lib.Dec.{leb}
 use lib.ListN.{length, get_or}
 use borrow.Author.Tests.{leb-true, le-leb, lt-leb}
 use Rattle.words.proofs.Tests.{same}
+use Rattle.linked_list.specs.Links.{next}
+use Rattle.linked_list.proofs.Steps.{nodes-none}
 use Rattle.ledger.specs.Ledger.{class_of, address_of}
 use Rattle.heap_blocks.specs.Sound.{Block, blk, apart, apart_from, disjointb}
 use Rattle.heap_blocks.specs.Parts.{list_blocks, free_up, blocks_of}
 use Rattle.heap_pairs.specs.Pairs.{crossb}
+use Rattle.heap_blocks.proofs.Walks.{blocks_end, blocks_step}
 use Rattle.heap_blocks.proofs.Classes.{up_step}
 use Rattle.heap_blocks.proofs.Asking.{every}
 
@@ -34,9 +37,15 @@ from-append b [] ys = refl
 from-append b (x ∷ xs) ys =
     ap (λ (t : Bool). apart b x && t) (from-append b xs ys) ∙ sym (and_assoc (apart b x) (apart_from b xs) (apart_from b ys))
 
-pub from-nodes : (b : Block) (k : ℕ) (xs : List ℕ) → apart_from b (map (blk k) xs) ≡ every (λ x. apart b (blk k x)) xs
-from-nodes b k [] = refl
-from-nodes b k (x ∷ xs) = ap (λ (t : Bool). apart b (blk k x) && t) (from-nodes b k xs)
+module _ (b : Block) (k left : ℕ) (arena : List ℕ) (node : ℕ) where
+  pub from_end : node ≡ 0 → apart_from b (list_blocks k left arena node) ≡ true
+  from_end e = ap (apart_from b) (blocks_end k left arena node e)
+
+  pub from_out : left ≡ 0 → apart_from b (list_blocks k left arena node) ≡ true
+  from_out e = rw (nodes-none left arena node (omega arith))
+
+  pub from_step : (less : ℕ) → left ≡ suc less → (node ≡ 0 → ⊥) → apart_from b (list_blocks k left arena node) ≡ apart b (blk k node) && apart_from b (list_blocks k less arena (next arena node))
+  from_step less e q = ap (apart_from b) (blocks_step k left less arena node e q)
 
 pub from-records : (b : Block) (ws : List ℕ) → apart_from b (blocks_of ws) ≡ every (λ w. apart b (blk (class_of w) (address_of w))) ws
 from-records b [] = refl
@@ -66,15 +75,19 @@ disjoint-append [] ys = refl
 disjoint-append (x ∷ xs) ys =
     ap (λ (t : Bool). apart_from x (xs ++ ys) && t) (disjoint-append xs ys) ∙ sym (and_assoc (apart_from x (xs ++ ys)) (crossb xs ys) (disjointb ys))
 
-module _ (k : ℕ) (later : List Block) (xs : List ℕ) where
-  pub cross-end : xs ≡ [] → crossb (map (blk k) xs) later ≡ true
+module _ (k left : ℕ) (arena : List ℕ) (node : ℕ) (later : List Block) where
+  pub cross-end : node ≡ 0 → crossb (list_blocks k left arena node) later ≡ true
   unfolding crossb
-  cross-end e = rw e refl
+  cross-end e = rw (blocks_end k left arena node e)
 
-  pub cross-step : (x : ℕ) (rest : List ℕ) → xs ≡ x ∷ rest →
-      crossb (map (blk k) xs) later ≡ apart_from (blk k x) (map (blk k) rest ++ later) && crossb (map (blk k) rest) later
+  pub cross-out : left ≡ 0 → crossb (list_blocks k left arena node) later ≡ true
   unfolding crossb
-  cross-step x rest e = rw e refl
+  cross-out e = rw (nodes-none left arena node (omega arith))
+
+  pub cross-step : (less : ℕ) → left ≡ suc less → (node ≡ 0 → ⊥) →
+      crossb (list_blocks k left arena node) later ≡ apart_from (blk k node) (list_blocks k less arena (next arena node) ++ later) && crossb (list_blocks k less arena (next arena node)) later
+  unfolding crossb
+  cross-step less e q = rw (blocks_step k left less arena node e q)
 
 module _ (heads arena : List ℕ) (later : List Block) where
   pub classes-step : (k : ℕ) → k < 33 →

@@ -1,12 +1,12 @@
 // Whether blocks are disjoint: each free block is compared in pairs with every block after it, free or granted. (Granted blocks stand in
 // the order of their addresses, so among themselves each is compared with the one before it, when the records are read.)
-ghost use Rattle.std.specs.Prelude.{◌≡◌, ◌||◌, ◌++◌, ◌+◌, ◌≤◌, ◌<◌, leb, length, map, get_or};
+ghost use Rattle.std.specs.Prelude.{◌≡◌, ◌||◌, ◌++◌, ◌+◌, ◌≤◌, ◌<◌, leb, length, get_or};
 ghost use Rattle.heap_blocks.specs.Sound.{blk, apart_from};
 ghost use Rattle.heap_blocks.specs.Parts.{list_blocks, free_up, blocks_of};
 ghost use Rattle.heap_pairs.specs.Pairs.{later_blocks, crossb};
 
 use ledger::{address_of, class_of};
-use linked_list::{Nodes, iter};
+use linked_list::next;
 
 // Two blocks have no byte in common; by differences, which fit where sums may not.
 fn apart(a: u64, size: u64, b: u64, other: u64) -> bool
@@ -20,14 +20,35 @@ fn apart(a: u64, size: u64, b: u64, other: u64) -> bool
 }
 
 // Kept: `class < 64` stands as it is in each contract: it is the bound of a shift, and a name for it would be no shorter.
-// A block and the blocks of a class at these nodes.
-fn apart_from_list(class: u64, address: u64, other: u64, mut nodes: Nodes<'_>) -> bool
+// Kept: this loop and that of `class_apart` count their nodes by hand: over `linked_list::iter` the test of a heap takes 1.65 to 1.82 times the Rust's at 100
+// blocks, where 1.5 is wanted and these loops take 1.42 to 1.52.
+// A block and the blocks of a list from a node on, at most so many.
+fn apart_from_list(
+    class: u64,
+    address: u64,
+    other: u64,
+    head: u64,
+    arena: &[u64],
+    most: usize,
+) -> bool
     requires { (class < 64) × (other < 64) }
-    ensures { result ≡ apart_from (blk class address) (map (blk other) nodes.entry) }
+    ensures { result ≡ apart_from (blk class address) (list_blocks other most arena.now head) }
 {
     let size = 1u64 << class;
     let bytes = 1u64 << other;
-    nodes.all(|node| apart(address, size, node, bytes))
+    let mut node = head;
+    let mut left = most;
+    while node != 0 {
+        if left == 0 {
+            return true;
+        }
+        if !apart(address, size, node, bytes) {
+            return false;
+        }
+        left -= 1;
+        node = next(arena, node);
+    }
+    true
 }
 
 // A block and the lists of the classes from `from` on.
@@ -40,8 +61,8 @@ fn apart_from_lists(class: u64, address: u64, from: usize, heads: &[u64; 33], ar
         if heads[other] == 0 {
             continue;
         }
-        let nodes = iter(heads[other], arena, arena.len());
-        if !apart_from_list(class, address, other as u64, nodes) {
+        let head = heads[other];
+        if !apart_from_list(class, address, other as u64, head, arena, arena.len()) {
             return false;
         }
     }
@@ -61,15 +82,16 @@ fn apart_from_records(class: u64, address: u64, records: &[u64]) -> bool
 fn node_apart(
     class: usize,
     node: u64,
-    after: Nodes<'_>,
+    after: u64,
+    left: usize,
     heads: &[u64; 33],
     arena: &[u64],
     records: &[u64],
 ) -> bool
     requires { class < 33 }
-    ensures { result ≡ apart_from (blk class node) (map (blk class) after.entry ++ later_blocks class heads.now arena.now records.now) }
+    ensures { result ≡ apart_from (blk class node) (list_blocks class left arena.now after ++ later_blocks class heads.now arena.now records.now) }
 {
-    if !apart_from_list(class as u64, node, class as u64, after) {
+    if !apart_from_list(class as u64, node, class as u64, after, arena, left) {
         return false;
     }
     if !apart_from_lists(class as u64, node, class + 1, heads, arena) {
@@ -83,11 +105,18 @@ fn class_apart(class: usize, heads: &[u64; 33], arena: &[u64], records: &[u64]) 
     requires { class < 33 }
     ensures { result ≡ crossb (list_blocks class (length arena.now) arena.now (get_or heads.now class 0)) (later_blocks class heads.now arena.now records.now) }
 {
-    let mut nodes = iter(heads[class], arena, arena.len());
-    while let Some(node) = nodes.next() {
-        if !node_apart(class, node, nodes.rest(), heads, arena, records) {
+    let mut left = arena.len();
+    let mut node = heads[class];
+    while node != 0 {
+        if left == 0 {
+            return true;
+        }
+        left -= 1;
+        let after = next(arena, node);
+        if !node_apart(class, node, after, left, heads, arena, records) {
             return false;
         }
+        node = after;
     }
     true
 }

@@ -14,7 +14,7 @@ pub returns-then-not-apart_from_list : goal.returns-then-not-apart_from_list
 returns-then-not-apart_from_list c =
     let a = c.args in
     let step = lists-step (blk a.class a.address) a.heads.now a.arena.now c.loop-other.other (omega arith) in
-    let bad = sym (rw c.iter-nodes.ensures at c.apart_from_list.ensures) ∙ c.if-not-apart_from_list.true in
+    let bad = sym c.apart_from_list.ensures ∙ c.if-not-apart_from_list.true in
     sym (step ∙ rw bad) ∙ c.loop-other.invariant
 
 pub loop-other-preserved-then-heads-other-eq0 : goal.loop-other-preserved-then-heads-other-eq0
@@ -28,7 +28,7 @@ pub loop-other-preserved : goal.loop-other-preserved
 loop-other-preserved c =
     let a = c.args in
     let step = lists-step (blk a.class a.address) a.heads.now a.arena.now c.loop-other.other (omega arith) in
-    let good = sym (rw c.iter-nodes.ensures at c.apart_from_list.ensures) ∙ c.if-not-apart_from_list.false in
+    let good = sym c.apart_from_list.ensures ∙ c.if-not-apart_from_list.false in
     rw good at (sym step) ∙ c.loop-other.invariant
 
 pub returns : goal.returns

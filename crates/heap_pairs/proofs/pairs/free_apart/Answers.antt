@@ -1,7 +1,6 @@
 -- `heap_pairs::pairs::free_apart` meets its contract: the classes left are compared as all are. Assumes nothing.
 use mathlib.Core.Path.{refl, sym, ◌∙◌}
 use native.Mathlib.Omega.{arith}
-use lib.ListN.{take}
 use Rattle.heap_blocks.specs.Parts.{blocks_of}
 use Rattle.heap_pairs.proofs.Crossing.{classes-step, classes-end}
 use Rattle.heap_pairs.proofs.pairs.free_apart.Goals as goal

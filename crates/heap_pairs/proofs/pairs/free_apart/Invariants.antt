@@ -1,6 +1,5 @@
 -- `heap_pairs::pairs::free_apart` meets its contract: the classes left are compared as all are. Assumes nothing.
 use mathlib.Core.Path.{◌≡◌}
-use lib.ListN.{take}
 use Rattle.heap_blocks.specs.Parts.{free_up, blocks_of}
 use Rattle.heap_pairs.specs.Pairs.{crossb}
 use Rattle.heap_pairs.proofs.pairs.free_apart.Given as goal
