@@ -3,9 +3,13 @@ use Rattle.std.proofs.Common.{◌≡◌, ℕ, ◌+◌, ◌-◌, ◌^◌, ◌<◌
 use native.Mathlib.Nat.{zero-max, max-zero}
 use Rattle.std.proofs.lemmas.List.{drop_all}
 use Rattle.rules.specs.Rules.{Block, blk, Sound, none, next, granted, frames_of, largest_free}
-use Rattle.table.specs.Layout.{mark_of, class_of, block_of}
+use Rattle.table.specs.Layout.{mark_of, class_of, start_of, end_of, block_of}
 use Rattle.frame_core.specs.Tally.{Tallied, free_of}
 use Rattle.frame_core.proofs.Records.{from_step}
+
+-- the frames of a record's block, by its end and its start
+pub size-is : (w end start : ℕ) → end ≡ end_of w → start ≡ start_of w → end - start ≡ 2 ^ class_of w
+size-is w end start p q = omega (arith, p, q)
 
 -- blocks that do not overlap have no more frames than there are
 step-le : (p : Block → Bool) (floor : ℕ) (g : Bool) (k s : ℕ) (bs : List Block) (b : Bool) → p (blk g k s) ≡ b → floor ≤ s → s + 2 ^ k + frames_of p bs ≤ 2 ^ 32

@@ -29,7 +29,7 @@ pub fn count_frames(t: &[u64]) -> Figures
     let mut managed = 0;
     let mut largest = 0;
     for w in &t[1..count + 1] {
-        let size = table::size_of(*w);
+        let size = table::end_of(*w) - table::start_of(*w);
         let free = free_of(*w, size);
         granted += size - free;
         managed += size;
